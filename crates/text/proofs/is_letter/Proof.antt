@@ -1,0 +1,16 @@
+use Rattle.text.specs.Laws.Tests.{tests}
+use Rattle.text.proofs.is_letter.Statement.{statement}
+use Rattle.text.proofs.is_letter.Tie as tie
+use Rattle.text.proofs.is_letter.Reads as reads
+use Rattle.text.proofs.is_letter.Lts as lts
+
+-- src/lib.rt:140:9
+returns : tie.Need-returns
+returns c = search tests
+
+-- src/lib.rt:136:1
+returns-2 : tie.Need-returns-2
+returns-2 c = search tests
+
+pub is-letter-spec : {M : Type 1} → statement M
+is-letter-spec = tie.close (tie.spec returns returns-2)

@@ -1,0 +1,23 @@
+use mathlib.Core.Logic.{⊎-elim}
+use Rattle.text.specs.Laws.Tests.{tests}
+use borrow.Author.Needs.{needs}
+use Rattle.text.proofs.is_name.Statement.{statement}
+use Rattle.text.proofs.is_name.Tie as tie
+use Rattle.text.proofs.is_name.Reads as reads
+use Rattle.text.proofs.is_name.Lts as lts
+use Rattle.text.proofs.is_letter.Reads as is-letter-reads
+
+-- src/lib.rt:150:13
+returns : tie.Need-returns
+returns c = search tests
+
+-- src/lib.rt:153:5
+is-letter-requires : tie.Need-is-letter-requires
+is-letter-requires c κs = search needs
+
+-- src/lib.rt:145:1
+returns-2 : tie.Need-returns-2
+returns-2 c = ⊎-elim (λ w0. search tests) (λ w0. search tests) (c .before .if1 .came)
+
+pub is-name-spec : {M : Type 1} → statement M
+is-name-spec = tie.close (tie.spec returns is-letter-requires returns-2)

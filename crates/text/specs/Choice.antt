@@ -1,0 +1,36 @@
+-- Tests and choices that the definitions are made of.
+use Prim.Native.Nat.{ℕ}
+use mathlib.Core.List.{List, [], _∷_}
+use mathlib.Core.Bool.{Bool, true, false}
+use lib.Dec.{eqb}
+
+-- the first if the test holds, else the second
+abbrev pub pick : {A : Type 0} → Bool → A → A → A
+pick true a b = a
+pick false a b = b
+
+-- both tests hold
+unfoldable pub _and_ : Bool → Bool → Bool
+true and b = b
+false and b = false
+
+infixr 30 _and_
+-- the test holds of all
+abbrev pub all : {A : Type 0} → (A → Bool) → List A → Bool
+all p [] = true
+all p (a ∷ as′) = p a and all p as′
+
+-- the list has nothing in it
+abbrev pub isEmpty : {A : Type 0} → List A → Bool
+isEmpty [] = true
+isEmpty (a ∷ as′) = false
+
+-- there is a first byte, and the test holds of it
+abbrev pub headIs : (ℕ → Bool) → List ℕ → Bool
+headIs p [] = false
+headIs p (x ∷ m) = p x
+
+-- the number stands in the list
+abbrev pub member : List ℕ → ℕ → Bool
+member [] a = false
+member (b ∷ bs) a = pick (eqb b a) true (member bs a)
