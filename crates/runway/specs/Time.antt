@@ -1,0 +1,30 @@
+-- An observation time MMDDhhmm, as a number, and which of two is later.
+use Prim.Native.Nat.{ℕ, _/_, _%_}
+use mathlib.Core.List.{[], _∷_}
+use mathlib.Core.Bool.{Bool}
+use lib.Dec.{eqb, leb, ltb}
+use Rattle.text.specs.Choice.{pick, _and_, member}
+
+-- the months of thirty days
+unfoldable pub isShortMonth : ℕ → Bool
+isShortMonth month = member (4 ∷ 6 ∷ 9 ∷ 11 ∷ []) month
+
+-- the days of a month, 29 February included
+unfoldable pub daysOf : ℕ → ℕ
+daysOf month = pick (eqb month 2) 29 (pick (isShortMonth month) 30 31)
+
+-- "a real day of its month"
+unfoldable pub realDay : ℕ → ℕ → Bool
+realDay month day = leb 1 month and leb month 12 and leb 1 day and leb day (daysOf month)
+
+-- "hours 00 to 23, minutes 00 to 59"
+unfoldable pub realClock : ℕ → Bool
+realClock hhmm = ltb (hhmm / 100) 24 and ltb (hhmm % 100) 60
+
+-- "An observation time is MMDDhhmm"
+unfoldable pub realTime : ℕ → Bool
+realTime t = realDay (t / 1000000) (t / 10000 % 100) and realClock (t % 10000)
+
+-- "times being compared as plain eight-digit numbers": the one order of times
+unfoldable pub later : ℕ → ℕ → Bool
+later t s = ltb s t
