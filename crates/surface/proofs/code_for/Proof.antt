@@ -1,0 +1,67 @@
+-- The loop over Table 1: what the lines that are left give is what the whole table gives.
+use Prim.Native.Nat.{_≤_, _-_}
+use mathlib.Core.Path.{_≡_, refl, sym, _∙_}
+use native.Mathlib.Omega.{arith}
+use lib.ListN.{length, drop, drop-of-length-le}
+use Rattle.surface.specs.Table1.{table1, firstLine, fits, code, codeFor}
+use Rattle.surface.proofs.Lines.{here, further, nowhere}
+use Rattle.surface.proofs.code_for.Statement.{statement}
+use Rattle.surface.proofs.code_for.Tie as tie
+
+abbrev Inv-loop : tie.InvT-loop
+Inv-loop kind o i₀ i = (i ≤ length table1) × (firstLine (λ l. fits l kind o) code 0 (drop i table1) ≡ codeFor kind o)
+
+abbrev μ-loop : tie.MeasureT-loop
+μ-loop kind o i₀ i = length table1 - i
+
+loop-holds : tie.Need-loop-holds Inv-loop μ-loop
+loop-holds c = (omega arith, refl)
+
+line-at-requires : tie.Need-line-at-requires Inv-loop μ-loop
+unfolding table1
+line-at-requires c κs = omega arith
+
+fits-requires : tie.Need-fits-requires Inv-loop μ-loop
+fits-requires c κs = tt
+
+returns : tie.Need-returns Inv-loop μ-loop
+unfolding table1
+returns c =
+    let o = c .before .before .before .before .before .args in
+    here (λ l. fits l (o .kind) (o .o)) code 0 (c .before .before .line-at .ensures) (sym (c .before .fits2 .ensures) ∙ c .if1 .taken)
+    ∙ c .before .before .before .before .loop .inv .1
+
+add-i : tie.Need-add-i Inv-loop μ-loop
+add-i c = omega arith
+
+loop-less : tie.Need-loop-less Inv-loop μ-loop
+unfolding table1
+loop-less c = omega arith
+
+loop-again : tie.Need-loop-again Inv-loop μ-loop
+unfolding table1
+loop-again c =
+    let o = c .before .before .before .before .before .args in (
+      omega arith,
+      further (λ l. fits l (o .kind) (o .o)) code 0 (c .before .before .line-at .ensures) (sym (c .before .fits2 .ensures) ∙ c .if1 .left)
+          ∙ c .before .before .before .before .loop .inv .1,
+    )
+
+returns-2 : tie.Need-returns-2 Inv-loop μ-loop
+unfolding table1
+returns-2 c = nowhere (λ l. fits l (c .before .before .args .kind) (c .before .before .args .o)) code 0 (drop-of-length-le table1 (c .loop-test .left)) ∙ c .before .loop .inv .1
+
+pub code-for-spec : {M : Type 1} → statement M
+code-for-spec =
+    tie.close
+    (tie.spec
+    Inv-loop
+    μ-loop
+    loop-holds
+    line-at-requires
+    fits-requires
+    returns
+    add-i
+    loop-less
+    loop-again
+    returns-2)

@@ -1,0 +1,19 @@
+use Rattle.text.specs.Laws.Tests.{tests}
+use Rattle.surface.specs.Assess.{reportedKind}
+use borrow.Author.Needs.{needs}
+use Rattle.surface.proofs.reported_kind.Statement.{statement}
+use Rattle.surface.proofs.reported_kind.Tie as tie
+
+is-thin-water-requires : tie.Need-is-thin-water-requires
+is-thin-water-requires c κs = search needs
+
+returns : tie.Need-returns
+unfolding reportedKind
+returns c = search tests
+
+returns-2 : tie.Need-returns-2
+unfolding reportedKind
+returns-2 c = search tests
+
+pub reported-kind-spec : {M : Type 1} → statement M
+reported-kind-spec = tie.close (tie.spec is-thin-water-requires returns returns-2)

@@ -1,0 +1,28 @@
+use borrow.Author.Tests.{ne-eqb}
+use Rattle.text.specs.Laws.Tests.{tests}
+use Rattle.surface.specs.Third.{validCoverage}
+use borrow.Author.Needs.{needs}
+use Rattle.surface.proofs.valid_coverage.Statement.{statement}
+use Rattle.surface.proofs.valid_coverage.Tie as tie
+
+returns : tie.Need-returns
+unfolding validCoverage
+returns c = search tests
+
+is-coverage-requires : tie.Need-is-coverage-requires
+is-coverage-requires c κs = search needs
+
+is-contaminant-requires : tie.Need-is-contaminant-requires
+is-contaminant-requires c κs = search needs
+
+returns-2 : tie.Need-returns-2
+unfolding validCoverage
+returns-2 c = rw (ne-eqb _ _ (c .before .before .before .if1 .left)) (search tests)
+
+returns-3 : tie.Need-returns-3
+unfolding validCoverage
+returns-3 c = rw (ne-eqb _ _ (c .before .before .if1 .left)) (search tests)
+
+pub valid-coverage-spec : {M : Type 1} → statement M
+valid-coverage-spec =
+    tie.close (tie.spec returns is-coverage-requires is-contaminant-requires returns-2 returns-3)

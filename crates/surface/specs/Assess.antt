@@ -1,0 +1,96 @@
+-- "Assessing a third": from an observation to the third that is reported.
+use Prim.Native.Nat.{ℕ}
+use mathlib.Core.Bool.{Bool, true, false, not}
+use lib.Dec.{eqb, leb, ltb}
+use lib.IntN.{ℤ, pos}
+use lib.Signed.{leZ}
+use Rattle.text.specs.Choice.{pick, _and_}
+use Rattle.surface.specs.declared.Third.{Third}
+use Rattle.surface.specs.declared.Observation.{Observation}
+use Rattle.surface.specs.declared.Assessment.{Assessment}
+use Rattle.surface.specs.Descriptions.{notReported, compactedSnow, standingWater, wet, dry, isDeep}
+use Rattle.surface.specs.Third.{third, blankThird, isReported, greatestDepth}
+use Rattle.surface.specs.Table1.{minus, isShallow, codeFor}
+
+-- "kind (one of the fifteen)"
+unfoldable pub isKind : ℕ → Bool
+isKind k = leb compactedSnow k and leb k dry
+
+-- "-600 to 600"
+unfoldable pub isTemperature : ℤ → Bool
+isTemperature t = leZ (minus 600) t and leZ t (pos 600)
+
+-- what 15 does not refuse
+unfoldable pub inRange : Observation → Bool
+inRange o = isKind (o .kind) and leb (o .cover) 100 and leb (o .depth) greatestDepth and isTemperature (o .temperature)
+
+-- "DRY with cover above 0"
+unfoldable pub coveredDry : Observation → Bool
+coveredDry o = eqb (o .kind) dry and ltb 0 (o .cover)
+
+-- "WET with depth above 3"
+unfoldable pub deepWet : Observation → Bool
+deepWet o = eqb (o .kind) wet and not (isShallow (o .depth))
+
+-- "depth above 0 for a kind other than WET and the four deep ones"
+unfoldable pub deepOther : Observation → Bool
+deepOther o = pick (eqb (o .kind) wet) false (pick (isDeep (o .kind)) false (ltb 0 (o .depth)))
+
+-- "slippery for a kind other than WET"
+unfoldable pub slipperyOther : Observation → Bool
+slipperyOther o = pick (eqb (o .kind) wet) false (o .slippery)
+
+-- what 16 refuses
+unfoldable pub contradictory : Observation → Bool
+contradictory o = pick (coveredDry o) true (pick (deepWet o) true (pick (deepOther o) true (slipperyOther o)))
+
+-- "Cover 10-25 gives 25, 26-50 gives 50, 51-75 gives 75, 76-100 gives 100"
+unfoldable pub coverageFor : ℕ → ℕ
+coverageFor cover = pick (leb cover 25) 25 (pick (leb cover 50) 50 (pick (leb cover 75) 75 100))
+
+-- the least cover that is reported
+abbrev pub leastCover : ℕ
+leastCover = 10
+
+-- "Below 10: code 6, NR, NR, and DRY if the kind is DRY, else NR"
+unfoldable pub uncovered : ℕ → Third
+uncovered kind = third 6 notReported notReported (pick (eqb kind dry) dry notReported)
+
+-- STANDING WATER "to 3 mm"
+unfoldable pub isThinWater : Observation → Bool
+isThinWater o = eqb (o .kind) standingWater and isShallow (o .depth)
+
+-- "it is reported as WET"
+unfoldable pub reportedKind : Observation → ℕ
+reportedKind o = pick (isThinWater o) wet (o .kind)
+
+-- "A depth below the kind's least reported value becomes NR, and so does every depth of a kind outside the four"
+unfoldable pub reportedDepth : ℕ → ℕ → ℕ
+reportedDepth kind depth = pick (isReported kind depth) depth notReported
+
+-- "From 10, by Table 1", for the kind that is reported
+unfoldable pub covered : ℕ → Observation → Third
+covered kind o = third (codeFor kind o) (coverageFor (o .cover)) (reportedDepth kind (o .depth)) kind
+
+-- the third of an observation that is in range and does not contradict itself
+unfoldable pub assessed : Observation → Third
+assessed o = pick (ltb (o .cover) leastCover) (uncovered (o .kind)) (covered (reportedKind o) o)
+
+-- refusal numbers: "15, 16: observation out of range; contradictory"
+abbrev pub outOfRange : ℕ
+outOfRange = 15
+
+abbrev pub contradiction : ℕ
+contradiction = 16
+
+-- an observation that is not refused
+abbrev pub taken : Third → Assessment
+taken t = record { refusal = 0; third = t }
+
+-- "refused assessing" reports "a third of code 0 with all NR"
+abbrev pub refused : ℕ → Assessment
+refused number = record { refusal = number; third = blankThird }
+
+-- "Assessing: 15, 16": out of range before contradictory, and both before all else
+unfoldable pub assessing : Observation → Assessment
+assessing o = pick (inRange o) (pick (contradictory o) (refused contradiction) (taken (assessed o))) (refused outOfRange)

@@ -1,0 +1,233 @@
+-- What the assessor reports is a third that a row may hold, and its code agrees with Table 1.
+use Prim.Native.Nat.{ℕ, _≤_}
+use mathlib.Core.Path.{_≡_, refl, sym, _∙_}
+use mathlib.Core.Bool.{Bool, true, false, not}
+use mathlib.Core.List.{List, [], _∷_}
+use lib.Dec.{eqb, leb, ltb}
+use borrow.Author.Tests.{leb-true, leb-false, le-leb, eqb-true, eqb-false, eq-eqb, ltb-false, lt-ltb, not-true}
+use native.Mathlib.Omega.{arith}
+use Rattle.text.specs.Choice.{pick, _and_, all}
+use Rattle.text.specs.Laws.Base.{and-1, and-2, and-i}
+use Rattle.surface.specs.declared.Third.{Third}
+use Rattle.surface.specs.declared.Observation.{Observation}
+use Rattle.surface.specs.declared.Line.{Line}
+use Rattle.surface.specs.declared.Condition.{Condition}
+use Rattle.surface.specs.declared.Condition.the-variants.{Always, NotSlippery, Slippery, Shallow, Deeper, Cold, Milder}
+use Rattle.surface.specs.Descriptions.{notReported, standingWater, wet, wetSnowOnIce, dry, isContaminant, isDeep}
+use Rattle.surface.specs.Third.{third, blankThird, isCode, isCoverage, validCoverage, leastDepth, isReported, validDepth, validThird, greatestDepth}
+use Rattle.surface.specs.Table1.{table1, code, kind, condition, isShallow, holds, fits, firstLine, canHold, allows, agrees}
+use Rattle.surface.specs.Assess.{isKind, inRange, coveredDry, contradictory, coverageFor, uncovered, isThinWater, reportedKind, reportedDepth, covered, assessed, assessing, leastCover, taken, refused, outOfRange, contradiction}
+use Rattle.surface.specs.Laws.OneLine.{counted, howMany, isThin, one-line}
+
+either : (t : Bool) {b : Bool} → b ≡ true → pick t true b ≡ true
+either true h = refl
+either false h = h
+
+-- ---- depth
+
+least : (k : ℕ) → leastDepth k ≤ 4
+unfolding leastDepth
+least k = go (eqb k standingWater)
+  where
+    go : (t : Bool) → pick t 4 3 ≤ 4
+    go true = omega arith
+    go false = omega arith
+
+nothing : isShallow notReported ≡ true
+unfolding isShallow
+nothing = refl
+
+reaches : (k d : ℕ) → isShallow d ≡ false → leastDepth k ≤ d
+unfolding isShallow
+reaches k d h = omega (arith, least k, leb-false d 3 h)
+
+-- a depth that is reported is the one observed, and one that is not is NR: so a shallow surface stays shallow
+shallow-stays : (k d : ℕ) → isShallow d ≡ true → isShallow (reportedDepth k d) ≡ true
+unfolding reportedDepth
+shallow-stays k d h = go (isReported k d)
+  where
+    go : (t : Bool) → isShallow (pick t d notReported) ≡ true
+    go true = h
+    go false = nothing
+
+-- and a deeper one of the four deep kinds stays as it is
+deeper-stays : (k d : ℕ) → isDeep k ≡ true → isShallow d ≡ false → isShallow (reportedDepth k d) ≡ false
+unfolding reportedDepth isReported
+deeper-stays k d deep h = rw (and-i deep (le-leb (leastDepth k) d (reaches k d h))) h
+
+valid-depth : (k d code coverage : ℕ) → leb d greatestDepth ≡ true → validDepth (third code coverage (reportedDepth k d) k) ≡ true
+unfolding validDepth reportedDepth
+valid-depth k d code coverage h = go (isReported k d) refl
+  where
+    go : (t : Bool) → isReported k d ≡ t → pick (eqb (pick t d notReported) notReported) true (isReported k (pick t d notReported) and leb (pick t d notReported) greatestDepth) ≡ true
+    go true e = either (eqb d notReported) (and-i e h)
+    go false e = refl
+
+-- ---- coverage
+
+a-coverage : (x y z : Bool) → isCoverage (pick x 25 (pick y 50 (pick z 75 100))) ≡ true
+unfolding isCoverage
+a-coverage true y z = refl
+a-coverage false true z = refl
+a-coverage false false true = refl
+a-coverage false false false = refl
+
+valid-coverage : (k c code depth : ℕ) → isContaminant k ≡ true → validCoverage (third code (coverageFor c) depth k) ≡ true
+unfolding validCoverage coverageFor
+valid-coverage k c code depth h = either (eqb (coverageFor c) notReported) (and-i (a-coverage (leb c 25) (leb c 50) (leb c 75)) h)
+
+-- ---- code
+
+-- a line asks for a depth above 3 mm of the four deep kinds alone
+abbrev asksDeep : Condition → Bool → Bool
+asksDeep Always deep = true
+asksDeep NotSlippery deep = true
+asksDeep Slippery deep = true
+asksDeep Shallow deep = true
+asksDeep Deeper deep = deep
+asksDeep Cold deep = true
+asksDeep Milder deep = true
+
+unfoldable isSound : Line → Bool
+isSound l = asksDeep (condition l) (isDeep (kind l)) and isCode (code l)
+
+all-sound : all isSound table1 ≡ true
+unfolding _and_ isSound isDeep table1
+all-sound = refl
+
+-- a condition that held of what was observed can hold of what is reported
+still : (c : Condition) (k : ℕ) (o : Observation) → asksDeep c (isDeep k) ≡ true → holds c o ≡ true → canHold c (reportedDepth k (o .depth)) ≡ true
+unfolding holds canHold
+still Always k o s h = refl
+still NotSlippery k o s h = refl
+still Slippery k o s h = refl
+still Shallow k o s h = shallow-stays k (o .depth) h
+still Deeper k o s h = rw (deeper-stays k (o .depth) s (not-true _ h))
+still Cold k o s h = refl
+still Milder k o s h = refl
+
+-- the line that gave the code allows it
+allowed-there : (l : Line) (k coverage : ℕ) (o : Observation) → isSound l ≡ true → fits l k o ≡ true → allows l (third (code l) coverage (reportedDepth k (o .depth)) k) ≡ true
+unfolding isSound fits allows
+allowed-there l k coverage o s f =
+    let same = eqb-true (kind l) k (and-1 _ _ f) in
+    let sound = rw same at (and-1 _ _ s) in
+    and-i (and-1 _ _ f) (and-i (eq-eqb (code l) (code l) refl) (still (condition l) k o sound (and-2 _ _ f)))
+
+module _ (k : ℕ) (o : Observation) where
+  -- the code that some lines give
+  abbrev given : List Line → ℕ
+  given ls = firstLine (λ l. fits l k o) code 0 ls
+
+  -- the third that is reported with a code, and whether some lines allow it
+  abbrev reported : ℕ → ℕ → Third
+  reported coverage c = third c coverage (reportedDepth k (o .depth)) k
+
+  abbrev allowedIn : List Line → Third → Bool
+  allowedIn ls t = firstLine (λ l. allows l t) (λ _. true) false ls
+
+  given-allowed : (coverage : ℕ) (ls : List Line) → all isSound ls ≡ true → howMany ls k o ≡ 1 → allowedIn ls (reported coverage (given ls)) ≡ true
+  unfolding firstLine howMany
+  given-allowed coverage [] s one = absurd (omega arith)
+  given-allowed coverage (l ∷ ls) s one = go (fits l k o) refl one (given-allowed coverage ls (and-2 _ _ s))
+    where
+      now : Bool → Third
+      now t = reported coverage (pick t (code l) (given ls))
+
+      go : (t : Bool) → fits l k o ≡ t → counted t (howMany ls k o) ≡ 1 → (howMany ls k o ≡ 1 → allowedIn ls (now false) ≡ true) → pick (allows l (now t)) true (allowedIn ls (now t)) ≡ true
+      go true f one later = rw (allowed-there l k coverage o (and-1 _ _ s) f)
+      go false f one later = either (allows l (now false)) (later one)
+
+  given-code : (ls : List Line) → all isSound ls ≡ true → isCode (given ls) ≡ true
+  unfolding firstLine isSound
+  given-code [] s = refl
+  given-code (l ∷ ls) s = go (fits l k o) (and-2 _ _ (and-1 _ _ s)) (given-code ls (and-2 _ _ s))
+    where
+      go : (t : Bool) → isCode (code l) ≡ true → isCode (given ls) ≡ true → isCode (pick t (code l) (given ls)) ≡ true
+      go true here later = here
+      go false here later = later
+
+-- ---- the kind that is reported
+
+record Reportable (o : Observation) (k : ℕ) : Type 0 where
+  known : isKind k ≡ true
+  contaminant : isContaminant k ≡ true
+  deeper : isThin k o ≡ false
+
+not-both : (a b : Bool) → (a and b) ≡ false → b ≡ true → a ≡ false
+unfolding _and_
+not-both true b h q = sym q ∙ h
+not-both false b h q = refl
+
+not-first : (t b : Bool) → pick t true b ≡ false → t ≡ false
+not-first true b h = h
+not-first false b h = refl
+
+-- a covered surface that does not contradict itself is not DRY
+not-dry : (o : Observation) → contradictory o ≡ false → ltb (o .cover) leastCover ≡ false → eqb (o .kind) dry ≡ false
+unfolding contradictory coveredDry
+not-dry o h c = not-both _ _ (not-first (coveredDry o) _ h) (lt-ltb 0 (o .cover) (omega (arith, ltb-false (o .cover) leastCover c)))
+
+a-contaminant : (k : ℕ) → isKind k ≡ true → eqb k dry ≡ false → isContaminant k ≡ true
+unfolding isKind isContaminant
+a-contaminant k h n = and-i (and-1 _ _ h) (le-leb k wetSnowOnIce (omega (arith, leb-true k dry (and-2 _ _ h), eqb-false k dry n)))
+
+a-wet : (o : Observation) → Reportable o wet
+unfolding _and_ isKind isContaminant
+a-wet o = record { known = refl; contaminant = refl; deeper = refl }
+
+not-thin : (o : Observation) → isThinWater o ≡ false → isThin (o .kind) o ≡ false
+unfolding isThinWater
+not-thin o e = e
+
+reportable : (o : Observation) → isKind (o .kind) ≡ true → eqb (o .kind) dry ≡ false → Reportable o (reportedKind o)
+unfolding reportedKind
+reportable o h n = go (isThinWater o) refl
+  where
+    go : (t : Bool) → isThinWater o ≡ t → Reportable o (pick t wet (o .kind))
+    go true e = a-wet o
+    go false e = record { known = h; contaminant = a-contaminant (o .kind) h n; deeper = not-thin o e }
+
+-- ---- the third that is reported
+
+pub record Right (t : Third) : Type 0 where
+  pub valid : validThird t ≡ true
+  pub agreeing : agrees t ≡ true
+
+covered-right : (o : Observation) (k : ℕ) → Reportable o k → leb (o .depth) greatestDepth ≡ true → Right (covered k o)
+unfolding isKind validThird agrees covered
+covered-right o k r d =
+    record {
+      valid = and-i (given-code k o table1 all-sound) (and-i (and-2 _ _ (r .known)) (and-i (valid-coverage k (o .cover) _ _ (r .contaminant)) (valid-depth k (o .depth) _ _ d)));
+      agreeing = either (eqb k notReported) (given-allowed k o (coverageFor (o .cover)) table1 all-sound (one-line o k (r .known) (r .deeper)));
+    }
+
+uncovered-right : (t : Bool) → Right (third 6 notReported notReported (pick t dry notReported))
+unfolding _and_ validCoverage validDepth validThird table1 canHold allows firstLine agrees
+uncovered-right true = record { valid = refl; agreeing = refl }
+uncovered-right false = record { valid = refl; agreeing = refl }
+
+assessed-right : (o : Observation) → inRange o ≡ true → contradictory o ≡ false → Right (assessed o)
+unfolding inRange uncovered assessed
+assessed-right o r n = go (ltb (o .cover) leastCover) refl
+  where
+    depth : leb (o .depth) greatestDepth ≡ true
+    depth = and-1 _ _ (and-2 _ _ (and-2 _ _ r))
+
+    go : (t : Bool) → ltb (o .cover) leastCover ≡ t → Right (pick t (uncovered (o .kind)) (covered (reportedKind o) o))
+    go true e = uncovered-right (eqb (o .kind) dry)
+    go false e = covered-right o (reportedKind o) (reportable o (and-1 _ _ r) (not-dry o n e)) depth
+
+blank-right : Right blankThird
+unfolding _and_ validCoverage validDepth validThird agrees
+blank-right = record { valid = refl; agreeing = refl }
+
+-- whatever was observed, the third that is reported is valid and agrees with Table 1
+pub right : (o : Observation) → Right (assessing o .third)
+unfolding assessing
+right o = go (inRange o) refl (contradictory o) refl
+  where
+    go : (t : Bool) → inRange o ≡ t → (u : Bool) → contradictory o ≡ u → Right ((pick t (pick u (refused contradiction) (taken (assessed o))) (refused outOfRange)) .third)
+    go true r true n = blank-right
+    go true r false n = assessed-right o r n
+    go false r u n = blank-right

@@ -1,0 +1,527 @@
+// A third of a runway: what it may hold, how an observation of it is assessed, and whether its code agrees with Table 1.
+// In every field 0 stands for NR.
+ghost use mathlib.Core.Path.{_≡_};
+ghost use Prim.Native.Nat.{_+_, _<_};
+ghost use mathlib.Core.List.{_∷_};
+ghost use lib.ListN.{length, drop};
+ghost use Rattle.surface.specs.Descriptions.{isContaminant, isDeep};
+ghost use Rattle.surface.specs.Third.{isBlankThird, isCoverage, validCoverage, leastDepth, isReported, validDepth, validThird};
+ghost use Rattle.surface.specs.Table1.{table1, isShallow, isCold, holds, fits, codeFor, canHold, allows, isAllowed, agrees};
+ghost use Rattle.surface.specs.Assess.{isKind, isTemperature, inRange, coveredDry, deepWet, deepOther, slipperyOther, contradictory, coverageFor, uncovered, isThinWater, reportedKind, reportedDepth, covered, assessed, assessing};
+use description::COMPACTED_SNOW;
+use description::DRY;
+use description::DRY_SNOW;
+use description::DRY_SNOW_ON_COMPACTED_SNOW;
+use description::DRY_SNOW_ON_ICE;
+use description::FROST;
+use description::ICE;
+use description::NR;
+use description::SLUSH;
+use description::STANDING_WATER;
+use description::WATER_ON_COMPACTED_SNOW;
+use description::WET;
+use description::WET_ICE;
+use description::WET_SNOW;
+use description::WET_SNOW_ON_COMPACTED_SNOW;
+use description::WET_SNOW_ON_ICE;
+
+pub mod description;
+
+pub struct Third {
+    pub code: u8,
+    // 25, 50, 75, 100
+    pub coverage: u8,
+    // millimetres
+    pub depth: u16,
+    pub description: u8,
+}
+
+pub struct Observation {
+    pub kind: u8,
+    // per cent
+    pub cover: u8,
+    // millimetres
+    pub depth: u16,
+    // tenths of a degree Celsius
+    pub temperature: i32,
+    pub slippery: bool,
+}
+
+pub struct Assessment {
+    // 0 for an observation that is taken
+    pub refusal: u8,
+    pub third: Third,
+}
+
+// ---- What a third may hold
+
+fn is_contaminant(description: u8) -> bool
+    ensures { λ r. ⌜ r ≡ isContaminant description ⌝ }
+{
+    if description < COMPACTED_SNOW {
+        return false;
+    }
+    description <= WET_SNOW_ON_ICE
+}
+
+fn is_deep(description: u8) -> bool
+    ensures { λ r. ⌜ r ≡ isDeep description ⌝ }
+{
+    if STANDING_WATER == description {
+        return true;
+    }
+    if SLUSH == description {
+        return true;
+    }
+    if WET_SNOW == description {
+        return true;
+    }
+    DRY_SNOW == description
+}
+
+fn is_coverage(coverage: u8) -> bool
+    ensures { λ r. ⌜ r ≡ isCoverage coverage ⌝ }
+{
+    if 25 == coverage {
+        return true;
+    }
+    if 50 == coverage {
+        return true;
+    }
+    if 75 == coverage {
+        return true;
+    }
+    100 == coverage
+}
+
+// A coverage is a number only under a contaminant.
+fn valid_coverage(t: Third) -> bool
+    ensures { λ r. ⌜ r ≡ validCoverage t ⌝ }
+{
+    if t.coverage == NR {
+        return true;
+    }
+    if is_coverage(t.coverage) {
+        return is_contaminant(t.description);
+    }
+    false
+}
+
+// The least depth that is reported of a deep surface.
+fn least_depth(description: u8) -> u16
+    ensures { λ r. ⌜ r ≡ leastDepth description ⌝ }
+{
+    if description == STANDING_WATER { 4 } else { 3 }
+}
+
+fn is_reported(description: u8, depth: u16) -> bool
+    ensures { λ r. ⌜ r ≡ isReported description depth ⌝ }
+{
+    if is_deep(description) {
+        return least_depth(description) <= depth;
+    }
+    false
+}
+
+const GREATEST_DEPTH: u16 = 999;
+
+fn valid_depth(t: Third) -> bool
+    ensures { λ r. ⌜ r ≡ validDepth t ⌝ }
+{
+    if t.depth == 0 {
+        return true;
+    }
+    if is_reported(t.description, t.depth) {
+        return t.depth <= GREATEST_DEPTH;
+    }
+    false
+}
+
+pub fn valid_third(t: Third) -> bool
+    ensures { λ r. ⌜ r ≡ validThird t ⌝ }
+{
+    if 6 < t.code {
+        return false;
+    }
+    if DRY < t.description {
+        return false;
+    }
+    if valid_coverage(t) {
+        return valid_depth(t);
+    }
+    false
+}
+
+pub fn is_blank_third(t: Third) -> bool
+    ensures { λ r. ⌜ r ≡ isBlankThird t ⌝ }
+{
+    if t.code != 0 {
+        return false;
+    }
+    if t.coverage != NR {
+        return false;
+    }
+    if t.depth != 0 {
+        return false;
+    }
+    t.description == NR
+}
+
+// ---- Table 1
+
+// What a line of Table 1 says besides the kind of surface.
+pub enum Condition {
+    Always,
+    NotSlippery,
+    Slippery,
+    // to 3 mm
+    Shallow,
+    // above 3 mm
+    Deeper,
+    // at -15 degrees and below
+    Cold,
+    // above -15 degrees
+    Milder,
+}
+
+// The code, the kind of surface, and the condition under which the kind has the code.
+pub struct Line(pub u8, pub u8, pub Condition);
+
+const LINES: usize = 20;
+
+// One line of the source for each line of the table, in the table's order.
+const TABLE_1: [Line; LINES] = [
+    Line(6, DRY, Condition::Always),
+    Line(5, FROST, Condition::Always),
+    Line(5, WET, Condition::NotSlippery),
+    Line(5, SLUSH, Condition::Shallow),
+    Line(5, DRY_SNOW, Condition::Shallow),
+    Line(5, WET_SNOW, Condition::Shallow),
+    Line(4, COMPACTED_SNOW, Condition::Cold),
+    Line(3, WET, Condition::Slippery),
+    Line(3, DRY_SNOW_ON_COMPACTED_SNOW, Condition::Always),
+    Line(3, WET_SNOW_ON_COMPACTED_SNOW, Condition::Always),
+    Line(3, DRY_SNOW, Condition::Deeper),
+    Line(3, WET_SNOW, Condition::Deeper),
+    Line(3, COMPACTED_SNOW, Condition::Milder),
+    Line(2, STANDING_WATER, Condition::Deeper),
+    Line(2, SLUSH, Condition::Deeper),
+    Line(1, ICE, Condition::Always),
+    Line(0, WET_ICE, Condition::Always),
+    Line(0, WATER_ON_COMPACTED_SNOW, Condition::Always),
+    Line(0, DRY_SNOW_ON_ICE, Condition::Always),
+    Line(0, WET_SNOW_ON_ICE, Condition::Always),
+];
+
+// The line of the table at a place counted from 0: the first of those that are left from there.
+fn line_at(i: usize) -> Line
+    requires { ⌜ i < length table1 ⌝ }
+    ensures { λ r. ⌜ drop i table1 ≡ r ∷ drop (i + 1) table1 ⌝ }
+{
+    TABLE_1[i]
+}
+
+fn is_shallow(depth: u16) -> bool
+    ensures { λ r. ⌜ r ≡ isShallow depth ⌝ }
+{
+    depth <= 3
+}
+
+fn is_cold(temperature: i32) -> bool
+    ensures { λ r. ⌜ r ≡ isCold temperature ⌝ }
+{
+    temperature <= -150
+}
+
+// The condition holds of the observation.
+fn holds(c: Condition, o: Observation) -> bool
+    ensures { λ r. ⌜ r ≡ holds c o ⌝ }
+{
+    match c {
+        Condition::Always => true,
+        Condition::NotSlippery => !o.slippery,
+        Condition::Slippery => o.slippery,
+        Condition::Shallow => is_shallow(o.depth),
+        Condition::Deeper => !is_shallow(o.depth),
+        Condition::Cold => is_cold(o.temperature),
+        Condition::Milder => !is_cold(o.temperature),
+    }
+}
+
+fn fits(l: Line, kind: u8, o: Observation) -> bool
+    ensures { λ r. ⌜ r ≡ fits l kind o ⌝ }
+{
+    if l.1 == kind {
+        let condition = l.2;
+        return holds(condition, o);
+    }
+    false
+}
+
+// The code that Table 1 gives a surface of this kind, so observed.
+fn code_for(kind: u8, o: Observation) -> u8
+    ensures { λ r. ⌜ r ≡ codeFor kind o ⌝ }
+{
+    let mut i = 0;
+    while i < LINES {
+        let l = line_at(i);
+        if fits(l, kind, o) {
+            return l.0;
+        }
+        i += 1;
+    }
+    0
+}
+
+// The condition can hold of a surface of which only the reported depth is known.
+fn can_hold(c: Condition, depth: u16) -> bool
+    ensures { λ r. ⌜ r ≡ canHold c depth ⌝ }
+{
+    match c {
+        Condition::Always => true,
+        Condition::NotSlippery => true,
+        Condition::Slippery => true,
+        Condition::Shallow => is_shallow(depth),
+        Condition::Deeper => !is_shallow(depth),
+        Condition::Cold => true,
+        Condition::Milder => true,
+    }
+}
+
+fn allows(l: Line, t: Third) -> bool
+    ensures { λ r. ⌜ r ≡ allows l t ⌝ }
+{
+    if l.1 != t.description {
+        return false;
+    }
+    if l.0 != t.code {
+        return false;
+    }
+    let condition = l.2;
+    can_hold(condition, t.depth)
+}
+
+fn is_allowed(t: Third) -> bool
+    ensures { λ r. ⌜ r ≡ isAllowed t ⌝ }
+{
+    let mut i = 0;
+    while i < LINES {
+        let l = line_at(i);
+        if allows(l, t) {
+            return true;
+        }
+        i += 1;
+    }
+    false
+}
+
+// The third's code is one that Table 1 allows its description and depth.
+pub fn agrees(t: Third) -> bool
+    ensures { λ r. ⌜ r ≡ agrees t ⌝ }
+{
+    if t.description == NR {
+        return true;
+    }
+    is_allowed(t)
+}
+
+// ---- Assessing
+
+fn is_kind(kind: u8) -> bool
+    ensures { λ r. ⌜ r ≡ isKind kind ⌝ }
+{
+    if kind < COMPACTED_SNOW {
+        return false;
+    }
+    kind <= DRY
+}
+
+fn is_temperature(temperature: i32) -> bool
+    ensures { λ r. ⌜ r ≡ isTemperature temperature ⌝ }
+{
+    if -600 <= temperature {
+        return temperature <= 600;
+    }
+    false
+}
+
+fn in_range(o: Observation) -> bool
+    ensures { λ r. ⌜ r ≡ inRange o ⌝ }
+{
+    if is_kind(o.kind) {
+        if 100 < o.cover {
+            return false;
+        }
+        if GREATEST_DEPTH < o.depth {
+            return false;
+        }
+        return is_temperature(o.temperature);
+    }
+    false
+}
+
+fn covered_dry(o: Observation) -> bool
+    ensures { λ r. ⌜ r ≡ coveredDry o ⌝ }
+{
+    if o.kind == DRY {
+        return 0 < o.cover;
+    }
+    false
+}
+
+fn deep_wet(o: Observation) -> bool
+    ensures { λ r. ⌜ r ≡ deepWet o ⌝ }
+{
+    if o.kind == WET {
+        return !is_shallow(o.depth);
+    }
+    false
+}
+
+fn deep_other(o: Observation) -> bool
+    ensures { λ r. ⌜ r ≡ deepOther o ⌝ }
+{
+    if o.kind == WET {
+        return false;
+    }
+    if is_deep(o.kind) {
+        return false;
+    }
+    0 < o.depth
+}
+
+fn slippery_other(o: Observation) -> bool
+    ensures { λ r. ⌜ r ≡ slipperyOther o ⌝ }
+{
+    if o.kind == WET {
+        return false;
+    }
+    o.slippery
+}
+
+fn contradictory(o: Observation) -> bool
+    ensures { λ r. ⌜ r ≡ contradictory o ⌝ }
+{
+    if covered_dry(o) {
+        return true;
+    }
+    if deep_wet(o) {
+        return true;
+    }
+    if deep_other(o) {
+        return true;
+    }
+    slippery_other(o)
+}
+
+fn coverage_for(cover: u8) -> u8
+    ensures { λ r. ⌜ r ≡ coverageFor cover ⌝ }
+{
+    if cover <= 25 {
+        return 25;
+    }
+    if cover <= 50 {
+        return 50;
+    }
+    if cover <= 75 {
+        return 75;
+    }
+    100
+}
+
+// Too little cover to report: only that the surface is dry, if it is.
+fn uncovered(kind: u8) -> Third
+    ensures { λ r. ⌜ r ≡ uncovered kind ⌝ }
+{
+    if kind == DRY {
+        return Third {
+            code: 6,
+            coverage: NR,
+            depth: 0,
+            description: DRY,
+        };
+    }
+    Third {
+        code: 6,
+        coverage: NR,
+        depth: 0,
+        description: NR,
+    }
+}
+
+fn is_thin_water(o: Observation) -> bool
+    ensures { λ r. ⌜ r ≡ isThinWater o ⌝ }
+{
+    if o.kind == STANDING_WATER {
+        return is_shallow(o.depth);
+    }
+    false
+}
+
+// Standing water that is no deeper than 3 mm is reported as WET.
+fn reported_kind(o: Observation) -> u8
+    ensures { λ r. ⌜ r ≡ reportedKind o ⌝ }
+{
+    if is_thin_water(o) { WET } else { o.kind }
+}
+
+fn reported_depth(kind: u8, depth: u16) -> u16
+    ensures { λ r. ⌜ r ≡ reportedDepth kind depth ⌝ }
+{
+    if is_reported(kind, depth) { depth } else { 0 }
+}
+
+fn covered(kind: u8, o: Observation) -> Third
+    ensures { λ r. ⌜ r ≡ covered kind o ⌝ }
+{
+    Third {
+        code: code_for(kind, o),
+        coverage: coverage_for(o.cover),
+        depth: reported_depth(kind, o.depth),
+        description: kind,
+    }
+}
+
+const LEAST_COVER: u8 = 10;
+
+fn assessed(o: Observation) -> Third
+    ensures { λ r. ⌜ r ≡ assessed o ⌝ }
+{
+    if o.cover < LEAST_COVER {
+        return uncovered(o.kind);
+    }
+    covered(reported_kind(o), o)
+}
+
+const OUT_OF_RANGE: u8 = 15;
+
+const CONTRADICTORY: u8 = 16;
+
+const BLANK_THIRD: Third = Third {
+    code: 0,
+    coverage: NR,
+    depth: 0,
+    description: NR,
+};
+
+// Refusal 15 for what is out of range, 16 for what contradicts itself; else the third as it is to be reported.
+pub fn assess(o: Observation) -> Assessment
+    ensures { λ r. ⌜ r ≡ assessing o ⌝ }
+{
+    if in_range(o) {
+        if contradictory(o) {
+            return Assessment {
+                refusal: CONTRADICTORY,
+                third: BLANK_THIRD,
+            };
+        }
+        return Assessment {
+            refusal: 0,
+            third: assessed(o),
+        };
+    }
+    Assessment {
+        refusal: OUT_OF_RANGE,
+        third: BLANK_THIRD,
+    }
+}
