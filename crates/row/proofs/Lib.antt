@@ -1,0 +1,4 @@
+pub mod Thirds
+pub mod Steps
+pub mod Groups
+pub mod Writes

@@ -1,0 +1,23 @@
+use Prim.Native.Nat.{ℕ}
+use mathlib.Core.Path.{sym, ap}
+use native.Mathlib.Omega.{arith}
+use lib.Dec.{leb}
+use lib.ListN.{length}
+use Rattle.row.specs.Writing.{rowText}
+use borrow.Author.Tests.{le-leb}
+use Rattle.row.specs.Laws.Sizes.{text-size}
+use borrow.Author.Needs.{needs}
+use Rattle.row.proofs.fits.Statement.{statement}
+use Rattle.row.proofs.fits.Tie as tie
+
+returns : tie.Need-returns
+returns c = let a = c .before .args in sym (le-leb (length (rowText (a .row))) (a .room) (omega (arith, text-size (a .row), c .if1 .taken)))
+
+row-size-requires : tie.Need-row-size-requires
+row-size-requires c κs = search needs
+
+returns-2 : tie.Need-returns-2
+returns-2 c = ap (λ (n : ℕ). leb n (c .before .before .args .room)) (c .row-size .ensures)
+
+pub fits-spec : {M : Type 1} → statement M
+fits-spec = tie.close (tie.spec returns row-size-requires returns-2)

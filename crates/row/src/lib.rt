@@ -1,0 +1,618 @@
+// A runway row: read from its line, judged by its own rules, written into the rest of a buffer.
+ghost use mathlib.Core.Path.{_≡_};
+ghost use mathlib.Core.Bool.{false};
+ghost use mathlib.Core.List.{[], _∷_};
+ghost use Prim.Native.Nat.{_<_};
+ghost use lib.Dec.{leb};
+ghost use lib.ListN.{length};
+ghost use Rattle.text.specs.Choice.{pick, all};
+ghost use Rattle.text.specs.Piece.{canonical};
+ghost use Rattle.text.specs.Read.{readAs, readGap};
+ghost use Rattle.text.specs.Numbers.{readDigits};
+ghost use Rattle.text.specs.Held.{Held};
+ghost use Rattle.text.specs.Put.{Put};
+ghost use Rattle.runway.specs.Runway.{readRunway};
+ghost use Rattle.surface.specs.Third.{validThird, isBlankThird};
+ghost use Rattle.thirds.specs.Groups.{codes, coverages, depths, descriptions, readGroup};
+ghost use Rattle.thirds.specs.Held.{trio};
+ghost use Rattle.thirds.specs.Laws.Groups.{Shown};
+ghost use Rattle.row.specs.Row.{blankRow, isBlankRow, validRow, isBare, isSix, isDry, isShort, field, numbersOf, groupOf, middlePieces, widthPieces, rowPieces};
+ghost use Rattle.row.specs.Reading.{readFull, readShort, readRest, readWidth, wholeRow, refusedRow, answer};
+ghost use Rattle.row.specs.Writing.{rowText, Wrote};
+ghost use Rattle.row.specs.Agreement.{disagrees, disagreements, agreement};
+ghost use Rattle.row.specs.Filling.{withTime, withRunway, withCodes, withRest, withWidth, fillGroup, Filled, judgedRow};
+use runway::put_runway;
+use runway::read_runway;
+use runway::real_time;
+use runway::valid_runway;
+use surface::Third;
+use surface::agrees;
+use surface::description;
+use surface::is_blank_third;
+use surface::valid_third;
+use text::Found;
+use text::digits;
+use text::put;
+use text::put_digits;
+use text::word;
+use thirds::CODES;
+use thirds::COVERAGES;
+use thirds::DEPTHS;
+use thirds::DESCRIPTIONS;
+use thirds::NO_TRIO;
+use thirds::Trio;
+use thirds::put_group;
+use thirds::read_group;
+
+// In every field 0 stands for NR and for what is missing.
+pub struct Row {
+    // MMDDhhmm as a number
+    pub time: u32,
+    pub number: u8,
+    // 0 none, 1 L, 2 C, 3 R
+    pub side: u8,
+    pub thirds: [Third; 3],
+    pub width: u8,
+}
+
+// ---- The rules of a row
+
+const HIGHEST_RUNWAY: u8 = 18;
+
+const GREATEST_WIDTH: u8 = 99;
+
+fn valid_thirds(a: Third, b: Third, c: Third) -> bool
+    ensures { λ r. ⌜ r ≡ all validThird (a ∷ b ∷ c ∷ []) ⌝ }
+{
+    if valid_third(a) {
+        if valid_third(b) {
+            return valid_third(c);
+        }
+    }
+    false
+}
+
+pub fn valid_row(r: Row) -> bool
+    ensures { λ b. ⌜ b ≡ validRow r ⌝ }
+{
+    let a = r.thirds[0];
+    let b = r.thirds[1];
+    let c = r.thirds[2];
+    if real_time(r.time) {
+        if valid_runway(HIGHEST_RUNWAY, r.number, r.side) {
+            if r.width <= GREATEST_WIDTH {
+                return valid_thirds(a, b, c);
+            }
+        }
+    }
+    false
+}
+
+const BLANK_THIRD: Third = Third {
+    code: 0,
+    coverage: 0,
+    depth: 0,
+    description: 0,
+};
+
+pub fn blank_row() -> Row
+    ensures { λ r. ⌜ r ≡ blankRow ⌝ }
+{
+    Row {
+        time: 0,
+        number: 0,
+        side: 0,
+        thirds: [BLANK_THIRD, BLANK_THIRD, BLANK_THIRD],
+        width: 0,
+    }
+}
+
+fn blank_thirds(a: Third, b: Third, c: Third) -> bool
+    ensures { λ r. ⌜ r ≡ all isBlankThird (a ∷ b ∷ c ∷ []) ⌝ }
+{
+    if is_blank_third(a) {
+        if is_blank_third(b) {
+            return is_blank_third(c);
+        }
+    }
+    false
+}
+
+pub fn is_blank_row(r: Row) -> bool
+    ensures { λ b. ⌜ b ≡ isBlankRow r ⌝ }
+{
+    let a = r.thirds[0];
+    let b = r.thirds[1];
+    let c = r.thirds[2];
+    if r.time == 0 {
+        if r.number == 0 {
+            if r.side == 0 {
+                if r.width == 0 {
+                    return blank_thirds(a, b, c);
+                }
+            }
+        }
+    }
+    false
+}
+
+fn is_bare(t: Third) -> bool
+    ensures { λ r. ⌜ r ≡ isBare t ⌝ }
+{
+    if t.coverage == 0 {
+        return t.depth == 0;
+    }
+    false
+}
+
+fn all_bare(a: Third, b: Third, c: Third) -> bool
+    ensures { λ r. ⌜ r ≡ all isBare (a ∷ b ∷ c ∷ []) ⌝ }
+{
+    if is_bare(a) {
+        if is_bare(b) {
+            return is_bare(c);
+        }
+    }
+    false
+}
+
+fn all_six(a: Third, b: Third, c: Third) -> bool
+    ensures { λ r. ⌜ r ≡ all isSix (a ∷ b ∷ c ∷ []) ⌝ }
+{
+    if a.code == 6 {
+        if b.code == 6 {
+            return c.code == 6;
+        }
+    }
+    false
+}
+
+fn all_dry(a: Third, b: Third, c: Third) -> bool
+    ensures { λ r. ⌜ r ≡ all isDry (a ∷ b ∷ c ∷ []) ⌝ }
+{
+    if a.description == description::DRY {
+        if b.description == description::DRY {
+            return c.description == description::DRY;
+        }
+    }
+    false
+}
+
+// No coverage and no depth, and all codes 6 or all descriptions DRY.
+fn is_short(r: Row) -> bool
+    ensures { λ b. ⌜ b ≡ isShort (r .thirds) ⌝ }
+{
+    let a = r.thirds[0];
+    let b = r.thirds[1];
+    let c = r.thirds[2];
+    if all_bare(a, b, c) {
+        if all_six(a, b, c) {
+            return true;
+        }
+        return all_dry(a, b, c);
+    }
+    false
+}
+
+// ---- Agreement with Table 1
+
+pub struct Agreement {
+    // 0 for a row that is judged, else 19
+    pub refusal: u8,
+    pub count: u8,
+}
+
+const INVALID_ROW: u8 = 19;
+
+fn disagrees(t: Third) -> u8
+    ensures { λ r. ⌜ r ≡ disagrees t ⌝ }
+{
+    if agrees(t) { 0 } else { 1 }
+}
+
+fn disagreements(r: Row) -> u8
+    ensures { λ n. ⌜ n ≡ disagreements (r .thirds) ⌝ }
+{
+    let a = r.thirds[0];
+    let b = r.thirds[1];
+    let c = r.thirds[2];
+    let x = disagrees(a);
+    let y = disagrees(b);
+    let z = disagrees(c);
+    x + (y + z)
+}
+
+// How many of the row's thirds have a code that Table 1 does not allow.
+pub fn disagreeing(row: Row) -> Agreement
+    ensures { λ r. ⌜ r ≡ agreement row ⌝ }
+{
+    if valid_row(row) {
+        return Agreement {
+            refusal: 0,
+            count: disagreements(row),
+        };
+    }
+    Agreement {
+        refusal: INVALID_ROW,
+        count: 0,
+    }
+}
+
+// ---- Reading
+
+// A row that is being filled, and the place behind its last group.
+pub struct Step {
+    pub fits: bool,
+    pub row: Row,
+    pub next: usize,
+}
+
+fn no_step(row: Row) -> Step
+    ensures { λ r. ⌜ r ≡ record { fits = false; row = row; next = 0 } ⌝ }
+{
+    Step {
+        fits: false,
+        row,
+        next: 0,
+    }
+}
+
+fn time_into(row: Row, s: &[u8]) -> Step
+    ensures { λ r. ⌜ Filled (now (s .entry)) (readAs (withTime row) (readDigits 8) (now (s .entry))) r ⌝ }
+{
+    let f = digits(s, 0, 8);
+    let mut t = row;
+    t.time = f.value;
+    Step {
+        fits: f.fits,
+        row: t,
+        next: f.next,
+    }
+}
+
+fn runway_into(row: Row, s: &[u8]) -> Step
+    ensures { λ r. ⌜ Filled (now (s .entry)) (readAs (withRunway row) (readGap readRunway) (now (s .entry))) r ⌝ }
+{
+    let g = word(s, 0, b" ", 0);
+    if !g.fits {
+        return no_step(row);
+    }
+    let f = read_runway(s, g.next);
+    let mut t = row;
+    t.number = f.number;
+    t.side = f.side;
+    Step {
+        fits: f.fits,
+        row: t,
+        next: f.next,
+    }
+}
+
+fn codes_into(row: Row, s: &[u8]) -> Step
+    ensures { λ r. ⌜ Filled (now (s .entry)) (readAs (withCodes row) (readGroup codes) (now (s .entry))) r ⌝ }
+{
+    let c = read_group(CODES, s, 0);
+    if !c.fits {
+        return no_step(row);
+    }
+    let x = Third {
+        code: c.one as u8,
+        coverage: 0,
+        depth: 0,
+        description: 0,
+    };
+    let y = Third {
+        code: c.two as u8,
+        coverage: 0,
+        depth: 0,
+        description: 0,
+    };
+    let z = Third {
+        code: c.three as u8,
+        coverage: 0,
+        depth: 0,
+        description: 0,
+    };
+    let t = Row {
+        time: row.time,
+        number: row.number,
+        side: row.side,
+        thirds: [x, y, z],
+        width: row.width,
+    };
+    Step {
+        fits: true,
+        row: t,
+        next: c.next,
+    }
+}
+
+// The row with coverages, depths and descriptions.
+fn with_rest(row: Row, v: Trio, d: Trio, k: Trio) -> Row
+    requires { ⌜ Shown coverages (trio v) × Shown depths (trio d) × Shown descriptions (trio k) ⌝ }
+    ensures { λ r. ⌜ r ≡ withRest row (trio v, (trio d, trio k)) ⌝ }
+{
+    let a = row.thirds[0];
+    let b = row.thirds[1];
+    let c = row.thirds[2];
+    let x = Third {
+        code: a.code,
+        coverage: v.one as u8,
+        depth: d.one as u16,
+        description: k.one as u8,
+    };
+    let y = Third {
+        code: b.code,
+        coverage: v.two as u8,
+        depth: d.two as u16,
+        description: k.two as u8,
+    };
+    let z = Third {
+        code: c.code,
+        coverage: v.three as u8,
+        depth: d.three as u16,
+        description: k.three as u8,
+    };
+    Row {
+        time: row.time,
+        number: row.number,
+        side: row.side,
+        thirds: [x, y, z],
+        width: row.width,
+    }
+}
+
+fn full_into(row: Row, s: &[u8]) -> Step
+    ensures { λ r. ⌜ Filled (now (s .entry)) (readAs (withRest row) readFull (now (s .entry))) r ⌝ }
+{
+    let v = read_group(COVERAGES, s, 0);
+    if !v.fits {
+        return no_step(row);
+    }
+    let d = read_group(DEPTHS, s, v.next);
+    if !d.fits {
+        return no_step(row);
+    }
+    let k = read_group(DESCRIPTIONS, s, d.next);
+    if !k.fits {
+        return no_step(row);
+    }
+    Step {
+        fits: true,
+        row: with_rest(row, v, d, k),
+        next: k.next,
+    }
+}
+
+fn short_into(row: Row, s: &[u8]) -> Step
+    ensures { λ r. ⌜ Filled (now (s .entry)) (readAs (withRest row) (readShort (numbersOf codes row)) (now (s .entry))) r ⌝ }
+{
+    let k = read_group(DESCRIPTIONS, s, 0);
+    if !k.fits {
+        return no_step(row);
+    }
+    let t = with_rest(row, NO_TRIO, NO_TRIO, k);
+    if is_short(t) {
+        Step {
+            fits: true,
+            row: t,
+            next: k.next,
+        }
+    } else {
+        no_step(row)
+    }
+}
+
+// Coverages, depths and descriptions, or the descriptions of a short row alone.
+fn rest_into(row: Row, s: &[u8]) -> Step
+    ensures { λ r. ⌜ Filled (now (s .entry)) (readAs (withRest row) (readRest (numbersOf codes row)) (now (s .entry))) r ⌝ }
+{
+    let f = full_into(row, s);
+    if f.fits {
+        return f;
+    }
+    short_into(row, s)
+}
+
+// 01 to 99 behind a gap, or 0 for none.
+fn width(s: &[u8]) -> Found
+    ensures { λ r. ⌜ Held (now (s .entry)) (readWidth (now (s .entry))) r × (r .value < 100) ⌝ }
+{
+    let g = word(s, 0, b" ", 0);
+    if g.fits {
+        let f = digits(s, g.next, 2);
+        if f.fits {
+            if 1 <= f.value {
+                return f;
+            }
+        }
+    }
+    Found {
+        fits: true,
+        value: 0,
+        next: 0,
+    }
+}
+
+fn width_into(row: Row, s: &[u8]) -> Step
+    ensures { λ r. ⌜ Filled (now (s .entry)) (readAs (withWidth row) readWidth (now (s .entry))) r ⌝ }
+{
+    let f = width(s);
+    let mut t = row;
+    t.width = f.value as u8;
+    Step {
+        fits: f.fits,
+        row: t,
+        next: f.next,
+    }
+}
+
+// The groups in their order: time, runway, codes, coverages to descriptions, width.
+fn group_into(group: u8, row: Row, s: &[u8]) -> Step
+    ensures { λ r. ⌜ Filled (now (s .entry)) (fillGroup group row (now (s .entry))) r ⌝ }
+{
+    match group {
+        0 => time_into(row, s),
+        1 => runway_into(row, s),
+        2 => codes_into(row, s),
+        3 => rest_into(row, s),
+        _ => width_into(row, s),
+    }
+}
+
+const GROUPS: u8 = 5;
+
+const REFUSED_ROW: u8 = 5;
+
+// 0 at the line's end, else the refusal of what is left.
+fn ending(line: &[u8], at: usize) -> u8
+    ensures { λ r. ⌜ r ≡ pick (leb (length (now (line .entry))) at) 0 refusedRow ⌝ }
+{
+    if line.len() <= at { 0 } else { REFUSED_ROW }
+}
+
+pub struct RowRead {
+    // 0 for a row that is taken, else 5
+    pub refusal: u8,
+    pub row: Row,
+}
+
+// A row whose groups all fit still has its own rules.
+fn judged(refusal: u8, row: Row) -> RowRead
+    ensures { λ r. ⌜ r ≡ judgedRow refusal row ⌝ }
+{
+    let blank = blank_row();
+    if refusal == 0 {
+        if valid_row(row) {
+            return RowRead { refusal: 0, row };
+        }
+    }
+    RowRead {
+        refusal: REFUSED_ROW,
+        row: blank,
+    }
+}
+
+// The row that a whole line is: group by group, each in the part of the line that is left, and the first misfit refuses it.
+pub fn read_row(line: &[u8]) -> RowRead
+    ensures { λ r. ⌜ r ≡ answer (wholeRow (now (line .entry))) ⌝ }
+{
+    let mut row = blank_row();
+    let mut at: usize = 0;
+    let mut group: u8 = 0;
+    let refusal: u8 = 'groups: loop {
+        if GROUPS <= group {
+            break 'groups ending(line, at);
+        }
+        let step = group_into(group, row, &line[at..]);
+        if !step.fits {
+            break 'groups REFUSED_ROW;
+        }
+        row = step.row;
+        at += step.next;
+        group += 1;
+    };
+    judged(refusal, row)
+}
+
+// ---- Writing
+
+// What a third holds for each of the groups.
+fn field(kind: u8, t: Third) -> u32
+    ensures { λ r. ⌜ r ≡ field kind t ⌝ }
+{
+    if kind == CODES {
+        return t.code as u32;
+    }
+    if kind == COVERAGES {
+        return t.coverage as u32;
+    }
+    if kind == DEPTHS {
+        return t.depth as u32;
+    }
+    t.description as u32
+}
+
+// A space and a group of the row's thirds.
+fn put_thirds(kind: u8, out: &mut [u8], at: usize, row: Row) -> usize
+    ensures { λ r. ⌜ Put at (canonical (groupOf kind row)) (now (out .entry)) (now (out .exit)) r ⌝ }
+{
+    let a = field(kind, row.thirds[0]);
+    let b = field(kind, row.thirds[1]);
+    let c = field(kind, row.thirds[2]);
+    put_group(kind, out, at, a, b, c)
+}
+
+// Coverages and depths, left out of a short row.
+fn put_middle(out: &mut [u8], at: usize, row: Row) -> usize
+    ensures { λ r. ⌜ Put at (canonical (middlePieces row)) (now (out .entry)) (now (out .exit)) r ⌝ }
+{
+    if is_short(row) {
+        return put(out, at, b"");
+    }
+    let at = put_thirds(COVERAGES, out, at, row);
+    put_thirds(DEPTHS, out, at, row)
+}
+
+fn put_width(out: &mut [u8], at: usize, width: u8) -> usize
+    ensures { λ r. ⌜ Put at (canonical (widthPieces width)) (now (out .entry)) (now (out .exit)) r ⌝ }
+{
+    if width == 0 {
+        return put(out, at, b"");
+    }
+    let at = put(out, at, b" ");
+    put_digits(out, at, 2, width as u32)
+}
+
+fn put_groups(out: &mut [u8], row: Row) -> usize
+    ensures { λ r. ⌜ Put 0 (canonical (rowPieces row)) (now (out .entry)) (now (out .exit)) r ⌝ }
+{
+    let at = put_digits(out, 0, 8, row.time);
+    let at = put(out, at, b" ");
+    let at = put_runway(out, at, row.number, row.side);
+    let at = put_thirds(CODES, out, at, row);
+    let at = put_middle(out, at, row);
+    let at = put_thirds(DESCRIPTIONS, out, at, row);
+    put_width(out, at, row.width)
+}
+
+// Puts the row's text into the rest of a buffer, as far as that goes, and answers its length; 0 for a row that is not valid.
+pub fn put_row(rest: &mut [u8], row: Row) -> usize
+    ensures { λ r. ⌜ Put 0 (rowText row) (now (rest .entry)) (now (rest .exit)) r ⌝ }
+{
+    if valid_row(row) {
+        return put_groups(rest, row);
+    }
+    put(rest, 0, b"")
+}
+
+const LONGEST_ROW: usize = 147;
+
+// How many bytes the row's text has.
+fn row_size(row: Row) -> usize
+    ensures { λ r. ⌜ r ≡ length (rowText row) ⌝ }
+{
+    let mut none = [0; 1];
+    put_row(&mut none, row)
+}
+
+// The row's text fits into so many bytes: the longest is known, and only a shorter rest is measured against the text.
+fn fits(room: usize, row: Row) -> bool
+    ensures { λ r. ⌜ r ≡ leb (length (rowText row)) room ⌝ }
+{
+    if LONGEST_ROW <= room {
+        return true;
+    }
+    row_size(row) <= room
+}
+
+// Writes the row into the rest of a buffer and answers how many bytes it filled.
+// A row that is not valid or does not fit leaves every byte as it was: 0.
+pub fn write_row(rest: &mut [u8], row: Row) -> usize
+    ensures { λ r. ⌜ Wrote (rowText row) (now (rest .entry)) (now (rest .exit)) r ⌝ }
+{
+    if fits(rest.len(), row) {
+        return put_row(rest, row);
+    }
+    0
+}

@@ -1,0 +1,37 @@
+use borrow.Author.Tests.{eq-eqb, ne-eqb}
+use borrow.Author.Needs.{needs}
+use Rattle.thirds.proofs.put_asked.Statement.{statement}
+use Rattle.thirds.proofs.put_asked.Tie as tie
+
+put-requires : tie.Need-put-requires
+put-requires c κs = search needs
+
+same-length : tie.Need-same-length
+same-length c = search needs
+
+returns : tie.Need-returns
+returns c = rw (eq-eqb _ _ (c .before .before .before .before .if1 .taken)) (c .before .before .put .ensures)
+
+slice-aggregate-put : tie.Need-slice-aggregate-put
+slice-aggregate-put c = search needs
+
+put-requires-2 : tie.Need-put-requires-2
+put-requires-2 c κs = search needs
+
+same-length-2 : tie.Need-same-length-2
+same-length-2 c = search needs
+
+returns-2 : tie.Need-returns-2
+returns-2 c = rw (ne-eqb _ _ (c .before .before .before .before .before .if1 .left)) (c .before .before .put2 .ensures)
+
+pub put-asked-spec : {M : Type 1} → statement M
+put-asked-spec =
+    tie.close
+    (tie.spec
+    put-requires
+    same-length
+    returns
+    slice-aggregate-put
+    put-requires-2
+    same-length-2
+    returns-2)

@@ -1,0 +1,4 @@
+pub mod Groups
+pub mod Alike
+pub mod Sizes
+pub mod Held

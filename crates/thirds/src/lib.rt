@@ -1,0 +1,364 @@
+// The groups of thirds of a runway row's text: codes, coverages, depths and descriptions, joined by `/`.
+ghost use mathlib.Core.List.{[]};
+ghost use lib.Dec.{eqb};
+ghost use lib.ListN.{drop};
+ghost use Rattle.text.specs.Choice.{pick};
+ghost use Rattle.text.specs.Piece.{canonical, bytes};
+ghost use Rattle.text.specs.Read.{readAfter};
+ghost use Rattle.text.specs.Names.{readName};
+ghost use Rattle.text.specs.Numbers.{readNumber};
+ghost use Rattle.text.specs.Held.{Held, readWord};
+ghost use Rattle.text.specs.Put.{Put};
+ghost use Rattle.thirds.specs.Groups.{measurePieces, readMeasure, readCoverage, descriptionPieces, readDescription, thirdPieces, readThird, readThree, groupPieces, readGroup};
+ghost use Rattle.thirds.specs.Parts.{toDry, toWater, toWet, asked};
+ghost use Rattle.thirds.specs.Held.{HeldThree, Tried, Kept};
+ghost use Rattle.surface.specs.Descriptions.{descriptionName};
+use surface::description;
+use text::Found;
+use text::NONE;
+use text::digits;
+use text::put;
+use text::put_digits;
+use text::word;
+
+mod texts;
+
+// The groups by number, in the order in which they stand.
+pub const CODES: u8 = 0;
+
+pub const COVERAGES: u8 = 1;
+
+pub const DEPTHS: u8 = 2;
+
+pub const DESCRIPTIONS: u8 = 3;
+
+// A number for each third, and the place behind them.
+pub struct Trio {
+    pub fits: bool,
+    pub one: u32,
+    pub two: u32,
+    pub three: u32,
+    pub next: usize,
+}
+
+pub const NO_TRIO: Trio = Trio {
+    fits: false,
+    one: 0,
+    two: 0,
+    three: 0,
+    next: 0,
+};
+
+// ---- Reading
+
+// What was found, or else the text `t` with its value where it stands at `i`.
+fn or_word(f: Found, s: &[u8], i: usize, t: &[u8], v: u8) -> Found
+    ensures { λ r. ⌜ Tried (now (s .entry)) f (readWord (now (t .entry)) v (drop i (now (s .entry)))) r ⌝ }
+{
+    if f.fits {
+        return f;
+    }
+    word(s, i, t, v as u32)
+}
+
+// The descriptions, a longer one before each that it begins with.
+fn description_to_dry(s: &[u8], i: usize) -> Found
+    ensures { λ r. ⌜ Held (now (s .entry)) (readName descriptionName toDry (drop i (now (s .entry)))) r ⌝ }
+{
+    let f = word(s, i, &texts::NR, 0);
+    let f = or_word(f, s, i, &texts::COMPACTED_SNOW, description::COMPACTED_SNOW);
+    let f = or_word(
+        f,
+        s,
+        i,
+        &texts::DRY_SNOW_ON_COMPACTED_SNOW,
+        description::DRY_SNOW_ON_COMPACTED_SNOW,
+    );
+    let f = or_word(
+        f,
+        s,
+        i,
+        &texts::DRY_SNOW_ON_ICE,
+        description::DRY_SNOW_ON_ICE,
+    );
+    let f = or_word(f, s, i, &texts::DRY_SNOW, description::DRY_SNOW);
+    or_word(f, s, i, &texts::DRY, description::DRY)
+}
+
+fn description_to_water(f: Found, s: &[u8], i: usize) -> Found
+    ensures { λ r. ⌜ Tried (now (s .entry)) f (readName descriptionName toWater (drop i (now (s .entry)))) r ⌝ }
+{
+    let f = or_word(f, s, i, &texts::FROST, description::FROST);
+    let f = or_word(f, s, i, &texts::ICE, description::ICE);
+    let f = or_word(f, s, i, &texts::SLUSH, description::SLUSH);
+    let f = or_word(f, s, i, &texts::STANDING_WATER, description::STANDING_WATER);
+    or_word(
+        f,
+        s,
+        i,
+        &texts::WATER_ON_COMPACTED_SNOW,
+        description::WATER_ON_COMPACTED_SNOW,
+    )
+}
+
+fn description_to_wet(f: Found, s: &[u8], i: usize) -> Found
+    ensures { λ r. ⌜ Tried (now (s .entry)) f (readName descriptionName toWet (drop i (now (s .entry)))) r ⌝ }
+{
+    let f = or_word(
+        f,
+        s,
+        i,
+        &texts::WET_SNOW_ON_COMPACTED_SNOW,
+        description::WET_SNOW_ON_COMPACTED_SNOW,
+    );
+    let f = or_word(
+        f,
+        s,
+        i,
+        &texts::WET_SNOW_ON_ICE,
+        description::WET_SNOW_ON_ICE,
+    );
+    let f = or_word(f, s, i, &texts::WET_SNOW, description::WET_SNOW);
+    let f = or_word(f, s, i, &texts::WET_ICE, description::WET_ICE);
+    or_word(f, s, i, &texts::WET, description::WET)
+}
+
+fn description(s: &[u8], i: usize) -> Found
+    ensures { λ r. ⌜ Held (now (s .entry)) (readDescription (drop i (now (s .entry)))) r ⌝ }
+{
+    let f = description_to_dry(s, i);
+    let f = description_to_water(f, s, i);
+    description_to_wet(f, s, i)
+}
+
+// What was found, if the test holds.
+fn kept(f: Found, test: bool) -> Found
+    ensures { λ r. ⌜ Kept f test r ⌝ }
+{
+    if test { f } else { NONE }
+}
+
+// Two digits, and three from 100 on.
+fn number(s: &[u8], i: usize) -> Found
+    ensures { λ r. ⌜ Held (now (s .entry)) (readNumber 2 (drop i (now (s .entry)))) r ⌝ }
+{
+    let f = digits(s, i, 3);
+    let f = kept(f, 100 <= f.value);
+    if f.fits {
+        return f;
+    }
+    digits(s, i, 2)
+}
+
+// NR, or a number that is not 0.
+fn measure(s: &[u8], i: usize) -> Found
+    ensures { λ r. ⌜ Held (now (s .entry)) (readMeasure (drop i (now (s .entry)))) r ⌝ }
+{
+    let f = word(s, i, &texts::NR, 0);
+    if f.fits {
+        return f;
+    }
+    let f = number(s, i);
+    kept(f, 1 <= f.value)
+}
+
+// NR, or a number up to 100.
+fn coverage(s: &[u8], i: usize) -> Found
+    ensures { λ r. ⌜ Held (now (s .entry)) (readCoverage (drop i (now (s .entry)))) r ⌝ }
+{
+    let f = measure(s, i);
+    kept(f, f.value <= 100)
+}
+
+fn one_third(kind: u8, s: &[u8], i: usize) -> Found
+    ensures { λ r. ⌜ Held (now (s .entry)) (readThird kind (drop i (now (s .entry)))) r ⌝ }
+{
+    if kind == CODES {
+        return digits(s, i, 1);
+    }
+    if kind == COVERAGES {
+        return coverage(s, i);
+    }
+    if kind == DEPTHS {
+        return measure(s, i);
+    }
+    description(s, i)
+}
+
+fn next_third(kind: u8, s: &[u8], i: usize) -> Found
+    ensures { λ r. ⌜ Held (now (s .entry)) (readAfter (bytes "/") (readThird kind) (drop i (now (s .entry)))) r ⌝ }
+{
+    let f = word(s, i, b"/", 0);
+    if f.fits {
+        return one_third(kind, s, f.next);
+    }
+    NONE
+}
+
+fn three(kind: u8, s: &[u8], i: usize) -> Trio
+    ensures { λ r. ⌜ HeldThree (now (s .entry)) (readThree (readThird kind) (drop i (now (s .entry)))) r ⌝ }
+{
+    let f = one_third(kind, s, i);
+    if !f.fits {
+        return NO_TRIO;
+    }
+    let g = next_third(kind, s, f.next);
+    if !g.fits {
+        return NO_TRIO;
+    }
+    let h = next_third(kind, s, g.next);
+    if !h.fits {
+        return NO_TRIO;
+    }
+    Trio {
+        fits: true,
+        one: f.value,
+        two: g.value,
+        three: h.value,
+        next: h.next,
+    }
+}
+
+// The numbers of a group of thirds that stands at `i` behind a gap.
+pub fn read_group(kind: u8, s: &[u8], i: usize) -> Trio
+    ensures { λ r. ⌜ HeldThree (now (s .entry)) (readGroup kind (drop i (now (s .entry)))) r ⌝ }
+{
+    let f = word(s, i, b" ", 0);
+    if f.fits {
+        return three(kind, s, f.next);
+    }
+    NO_TRIO
+}
+
+// ---- Writing
+
+// Puts `t`, the text of the description `n`, if that is the one asked for; else nothing.
+fn put_asked(d: u32, out: &mut [u8], at: usize, t: &[u8], n: u8) -> usize
+    ensures { λ r. ⌜ Put at (pick (eqb n d) (now (t .entry)) []) (now (out .entry)) (now (out .exit)) r ⌝ }
+{
+    if n as u32 == d {
+        return put(out, at, t);
+    }
+    put(out, at, b"")
+}
+
+fn put_to_dry(d: u32, out: &mut [u8], at: usize) -> usize
+    ensures { λ r. ⌜ Put at (asked toDry d) (now (out .entry)) (now (out .exit)) r ⌝ }
+{
+    let at = put_asked(d, out, at, &texts::NR, description::NR);
+    let at = put_asked(
+        d,
+        out,
+        at,
+        &texts::COMPACTED_SNOW,
+        description::COMPACTED_SNOW,
+    );
+    let at = put_asked(
+        d,
+        out,
+        at,
+        &texts::DRY_SNOW_ON_COMPACTED_SNOW,
+        description::DRY_SNOW_ON_COMPACTED_SNOW,
+    );
+    let at = put_asked(
+        d,
+        out,
+        at,
+        &texts::DRY_SNOW_ON_ICE,
+        description::DRY_SNOW_ON_ICE,
+    );
+    let at = put_asked(d, out, at, &texts::DRY_SNOW, description::DRY_SNOW);
+    put_asked(d, out, at, &texts::DRY, description::DRY)
+}
+
+fn put_to_water(d: u32, out: &mut [u8], at: usize) -> usize
+    ensures { λ r. ⌜ Put at (asked toWater d) (now (out .entry)) (now (out .exit)) r ⌝ }
+{
+    let at = put_asked(d, out, at, &texts::FROST, description::FROST);
+    let at = put_asked(d, out, at, &texts::ICE, description::ICE);
+    let at = put_asked(d, out, at, &texts::SLUSH, description::SLUSH);
+    let at = put_asked(
+        d,
+        out,
+        at,
+        &texts::STANDING_WATER,
+        description::STANDING_WATER,
+    );
+    put_asked(
+        d,
+        out,
+        at,
+        &texts::WATER_ON_COMPACTED_SNOW,
+        description::WATER_ON_COMPACTED_SNOW,
+    )
+}
+
+fn put_to_wet(d: u32, out: &mut [u8], at: usize) -> usize
+    ensures { λ r. ⌜ Put at (asked toWet d) (now (out .entry)) (now (out .exit)) r ⌝ }
+{
+    let at = put_asked(
+        d,
+        out,
+        at,
+        &texts::WET_SNOW_ON_COMPACTED_SNOW,
+        description::WET_SNOW_ON_COMPACTED_SNOW,
+    );
+    let at = put_asked(
+        d,
+        out,
+        at,
+        &texts::WET_SNOW_ON_ICE,
+        description::WET_SNOW_ON_ICE,
+    );
+    let at = put_asked(d, out, at, &texts::WET_SNOW, description::WET_SNOW);
+    let at = put_asked(d, out, at, &texts::WET_ICE, description::WET_ICE);
+    put_asked(d, out, at, &texts::WET, description::WET)
+}
+
+fn put_description(d: u32, out: &mut [u8], at: usize) -> usize
+    ensures { λ r. ⌜ Put at (canonical (descriptionPieces d)) (now (out .entry)) (now (out .exit)) r ⌝ }
+{
+    let at = put_to_dry(d, out, at);
+    let at = put_to_water(d, out, at);
+    put_to_wet(d, out, at)
+}
+
+// NR, or two digits, and three from 100 on.
+fn put_measure(x: u32, out: &mut [u8], at: usize) -> usize
+    ensures { λ r. ⌜ Put at (canonical (measurePieces x)) (now (out .entry)) (now (out .exit)) r ⌝ }
+{
+    if x == 0 {
+        return put(out, at, &texts::NR);
+    }
+    if 100 <= x {
+        return put_digits(out, at, 3, x);
+    }
+    put_digits(out, at, 2, x)
+}
+
+fn put_third(kind: u8, x: u32, out: &mut [u8], at: usize) -> usize
+    ensures { λ r. ⌜ Put at (canonical (thirdPieces kind x)) (now (out .entry)) (now (out .exit)) r ⌝ }
+{
+    if kind == CODES {
+        return put_digits(out, at, 1, x);
+    }
+    if kind == COVERAGES {
+        return put_measure(x, out, at);
+    }
+    if kind == DEPTHS {
+        return put_measure(x, out, at);
+    }
+    put_description(x, out, at)
+}
+
+// Puts a space and the three numbers in the text of their group, and answers the place behind them.
+pub fn put_group(kind: u8, out: &mut [u8], at: usize, a: u32, b: u32, c: u32) -> usize
+    ensures { λ r. ⌜ Put at (canonical (groupPieces kind (a, b, c))) (now (out .entry)) (now (out .exit)) r ⌝ }
+{
+    let at = put(out, at, b" ");
+    let at = put_third(kind, a, out, at);
+    let at = put(out, at, b"/");
+    let at = put_third(kind, b, out, at);
+    let at = put(out, at, b"/");
+    put_third(kind, c, out, at)
+}
