@@ -1,0 +1,70 @@
+-- What the code's answers say of the readers: a line that does not fit gives a blank answer.
+use Prim.Native.Nat.{ℕ, _-_, _≤_}
+use mathlib.Core.Path.{_≡_}
+use mathlib.Core.List.{List}
+use mathlib.Core.Bool.{true, false}
+use lib.ListN.{length, take, drop, replicate}
+use Rattle.text.specs.Choice.{pick}
+use Rattle.text.specs.Read.{Got, misfit, got}
+use Rattle.text.specs.Arrays.{pad, flat}
+use Rattle.text.specs.declared.Found.{Found}
+use Rattle.heading.specs.Addresses.{addressRoom}
+use Rattle.heading.specs.Filing.{originatorSize}
+use Rattle.heading.specs.Heading.{regionSize, aerodromeSize, Heading, readDesignator}
+use Rattle.heading.specs.declared.Addresses.{Addresses}
+use Rattle.heading.specs.declared.Filing.{Filing}
+use Rattle.heading.specs.declared.Title.{Title}
+use Rattle.heading.specs.declared.Span.{Span}
+use Rattle.heading.specs.declared.AddressList.{AddressList}
+use Rattle.heading.specs.declared.AddressesRead.{AddressesRead}
+use Rattle.heading.specs.declared.FilingRead.{FilingRead}
+use Rattle.heading.specs.declared.HeadingRead.{HeadingRead}
+use Rattle.heading.specs.declared.AerodromeRead.{AerodromeRead}
+
+-- "blank means all zero"
+abbrev pub zeros : ℕ → List ℕ
+zeros n = replicate n 0
+
+-- each line's part of a blank record
+abbrev pub blankAddresses : Addresses
+blankAddresses = record { priority = 0; count = 0; letters = zeros addressRoom }
+
+abbrev pub blankFiling : Filing
+blankFiling = record { time = 0; originator = zeros originatorSize }
+
+abbrev pub blankTitle : Title
+blankTitle = record { region = zeros regionSize; serial = 0; aerodrome = zeros aerodromeSize }
+
+-- the answer that a reading of each line gives
+abbrev pub addressesAnswer : Got Addresses → AddressesRead
+addressesAnswer misfit = record { fits = false; addresses = blankAddresses }
+addressesAnswer (got a r) = record { fits = true; addresses = a }
+
+abbrev pub filingAnswer : Got Filing → FilingRead
+filingAnswer misfit = record { fits = false; filing = blankFiling }
+filingAnswer (got f r) = record { fits = true; filing = f }
+
+abbrev pub headingAnswer : Got Heading → HeadingRead
+headingAnswer misfit = record { fits = false; title = blankTitle; time = 0 }
+headingAnswer (got h r) = record { fits = true; title = h .title; time = h .time }
+
+abbrev pub aerodromeAnswer : Got (List ℕ) → AerodromeRead
+aerodromeAnswer misfit = record { fits = false; aerodrome = zeros aerodromeSize }
+aerodromeAnswer (got a r) = record { fits = true; aerodrome = a }
+
+-- the addresses of a line, behind its priority
+abbrev pub listAnswer : Got (List (List ℕ)) → AddressList
+listAnswer misfit = record { count = 0; letters = zeros addressRoom }
+listAnswer (got as′ r) = record { count = length as′; letters = pad addressRoom 0 (flat as′) }
+
+-- the answer r is the reading g of letters in m: they stand from `start` to `next`
+pub record Spanned (m : List ℕ) (g : Got (List ℕ)) (r : Span) : Type 0 where
+  pub ordered : r .start ≤ r .next
+  pub within : r .next ≤ length m
+  pub says : g ≡ pick (r .fits) (got (take (r .next - r .start) (drop (r .start) m)) (drop (r .next) m)) misfit
+
+-- the answer r is the reading of `SW`, two letters and the serial: the letters stand at 2
+pub record Designated (m : List ℕ) (r : Found) : Type 0 where
+  pub within : r .next ≤ length m
+  pub long : r .fits ≡ true → 4 ≤ length m
+  pub says : readDesignator m ≡ pick (r .fits) (got (take 2 (drop 2 m), r .value) (drop (r .next) m)) misfit

@@ -1,0 +1,4 @@
+pub mod Letters
+pub mod Addresses
+pub mod Filing
+pub mod Heading
