@@ -1,0 +1,140 @@
+-- One law for each case of a step of the loops over the rows.
+use Prim.Native.Nat.{ℕ, suc, _+_, _-_, _<_, _≤_}
+use mathlib.Core.Path.{_≡_, refl, sym, _∙_, ap}
+use mathlib.Core.List.{List, [], _∷_, _++_, append-assoc, append-nil}
+use mathlib.Core.Bool.{Bool, true, false, not}
+use lib.ListN.{length, take, drop, getD, length-take, drop-of-length-le}
+use lib.Seq.{drop-cons, getD-take, take-suc, take-all}
+use native.Mathlib.Numerals.{add-one}
+use native.Mathlib.Omega.{arith}
+use Rattle.text.specs.Choice.{pick, _and_, all}
+use Rattle.text.specs.Lines.{closed}
+use Rattle.text.specs.Put.{Put, told}
+use Rattle.text.specs.Laws.Base.{true-false}
+use Rattle.row.specs.declared.Row.{Row}
+use Rattle.row.specs.Writing.{rowText}
+use Rattle.body.specs.Rows.{sameRunway, isAmong, newRunways, latestOf, latestFrom, latest, rowsText}
+
+-- both tests, the first of them decided
+pub and-yes : (a b : Bool) → a ≡ true → (a and b) ≡ b
+unfolding _and_
+and-yes a b e = rw e
+
+pub and-no : (a b : Bool) → a ≡ false → (a and b) ≡ false
+unfolding _and_
+and-no a b e = rw e
+
+-- what is left from place i of a list, and of its first n
+module _ {A : Type 0} (d : A) (l : List A) (i : ℕ) where
+  next-place : i < length l → drop i l ≡ getD l i d ∷ drop (i + 1) l
+  next-place h = rw add-one (drop-cons l i d h)
+
+  next-used : (n : ℕ) → i < n → i < length l → drop i (take n l) ≡ getD l i d ∷ drop (i + 1) (take n l)
+  next-used n h k =
+      let f : i < length (take n l) = rw length-take (omega arith) in
+      let e : drop i (take n l) ≡ getD (take n l) i d ∷ drop (i + 1) (take n l) = rw add-one (drop-cons (take n l) i d f) in
+      e ∙ ap (λ (a : A). a ∷ drop (i + 1) (take n l)) (getD-take n l i d h)
+
+module _ {A : Type 0} (l : List A) (n i : ℕ) where
+  pub none-used : n ≤ i → drop i (take n l) ≡ []
+  none-used h = let k : length (take n l) ≤ i = rw length-take (omega arith) in drop-of-length-le (take n l) k
+
+  pub none-left : length l ≤ i → drop i (take n l) ≡ []
+  none-left h = let k : length (take n l) ≤ i = rw length-take (omega arith) in drop-of-length-le (take n l) k
+
+-- what the code finds at a place outside an array of rows
+abbrev pub outside : Row
+outside = record { time = 0; number = 0; side = 0; thirds = []; width = 0 }
+
+-- a test of all: the next one passes, or does not
+module _ (p : Row → Bool) (l : List Row) (i : ℕ) (k : i < length l) where
+  pub all-yes : p (getD l i outside) ≡ true → all p (drop i l) ≡ all p (drop (i + 1) l)
+  all-yes e = ap (all p) (next-place outside l i k) ∙ and-yes _ _ e
+
+  pub all-no : p (getD l i outside) ≡ false → all p (drop i l) ≡ false
+  all-no e = ap (all p) (next-place outside l i k) ∙ and-no _ _ e
+
+  pub used-yes : (n : ℕ) → i < n → p (getD l i outside) ≡ true → all p (drop i (take n l)) ≡ all p (drop (i + 1) (take n l))
+  used-yes n h e = ap (all p) (next-used outside l i n h k) ∙ and-yes _ _ e
+
+  pub used-no : (n : ℕ) → i < n → p (getD l i outside) ≡ false → all p (drop i (take n l)) ≡ false
+  used-no n h e = ap (all p) (next-used outside l i n h k) ∙ and-no _ _ e
+
+module _ (rows : List Row) (n i : ℕ) (h : i < n) (k : i < length rows) where
+  pub among-hit : (r : Row) → sameRunway (getD rows i outside) r ≡ true → isAmong r (drop i (take n rows)) ≡ true
+  unfolding isAmong
+  among-hit r e = ap (isAmong r) (next-used outside rows i n h k) ∙ rw e
+
+  pub among-miss : (r : Row) → sameRunway (getD rows i outside) r ≡ false → isAmong r (drop i (take n rows)) ≡ isAmong r (drop (i + 1) (take n rows))
+  unfolding isAmong
+  among-miss r e = ap (isAmong r) (next-used outside rows i n h k) ∙ rw e
+
+  new-next : newRunways (take i rows) (drop i (take n rows)) ≡ (not (isAmong (getD rows i outside) (take i rows)) and newRunways (take (i + 1) rows) (drop (i + 1) (take n rows)))
+  unfolding newRunways
+  new-next =
+      let e : take i rows ++ (getD rows i outside ∷ []) ≡ take (i + 1) rows = rw add-one (sym (take-suc rows i outside k)) in
+      ap (newRunways (take i rows)) (next-used outside rows i n h k) ∙ ap (λ (s : List Row). not (isAmong (getD rows i outside) (take i rows)) and newRunways s (drop (i + 1) (take n rows))) e
+
+  pub new-hit : isAmong (getD rows i outside) (take i rows) ≡ true → newRunways (take i rows) (drop i (take n rows)) ≡ false
+  new-hit e = new-next ∙ and-no _ _ (rw e)
+
+  pub new-miss : isAmong (getD rows i outside) (take i rows) ≡ false → newRunways (take i rows) (drop i (take n rows)) ≡ newRunways (take (i + 1) rows) (drop (i + 1) (take n rows))
+  new-miss e = new-next ∙ and-yes _ _ (rw e)
+
+  pub latest-next : (t u : ℕ) → u ≡ latestOf t (getD rows i outside .time) → latestFrom t (drop i (take n rows)) ≡ latestFrom u (drop (i + 1) (take n rows))
+  unfolding latestFrom
+  latest-next t u e = ap (latestFrom t) (next-used outside rows i n h k) ∙ rw e
+
+pub latest-first : (rows : List Row) (n : ℕ) → 0 < n → 0 < length rows → latest (take n rows) ≡ latestFrom (getD rows 0 outside .time) (drop 1 (take n rows))
+unfolding latest
+latest-first [] n h k = absurd (omega arith)
+latest-first (r ∷ rows) n h k = let z : n ≡ suc (n - 1) = omega arith in rw z
+
+pub latest-zero : (rows : List Row) (n : ℕ) → n ≡ 0 → latest (take n rows) ≡ 0
+unfolding latest
+latest-zero rows n e = rw e
+
+-- the end of each
+pub among-none : (r : Row) {l : List Row} → l ≡ [] → isAmong r l ≡ false
+unfolding isAmong
+among-none r e = ap (isAmong r) e
+
+pub new-none : (seen : List Row) {l : List Row} → l ≡ [] → newRunways seen l ≡ true
+unfolding newRunways
+new-none seen e = ap (newRunways seen) e
+
+pub latest-none : (t : ℕ) {l : List Row} → l ≡ [] → latestFrom t l ≡ t
+unfolding latestFrom
+latest-none t e = ap (latestFrom t) e
+
+-- a line that `)` closes has a byte
+pub closed-some : (l : List ℕ) → closed l ≡ true → 0 < length l
+unfolding closed
+closed-some [] h = true-false (sym h)
+closed-some (x ∷ l) h = omega arith
+
+-- the rows' texts, one more at a time
+texts-join : (a b : List Row) → rowsText (a ++ b) ≡ rowsText a ++ rowsText b
+unfolding rowsText
+texts-join [] b = refl
+texts-join (r ∷ a) b = ap (λ (l : List ℕ). 10 ∷ l) (ap (λ (l : List ℕ). rowText r ++ l) (texts-join a b) ∙ sym (append-assoc (rowText r) (rowsText a) (rowsText b)))
+
+module _ (rows : List Row) (n i : ℕ) where
+  pub text-next : i < n → i < length rows → rowsText (take (i + 1) (take n rows)) ≡ rowsText (take i (take n rows)) ++ ((10 ∷ []) ++ rowText (getD rows i outside))
+  unfolding rowsText
+  text-next h k =
+      let f : i < length (take n rows) = rw length-take (omega arith) in
+      let e : take (i + 1) (take n rows) ≡ take i (take n rows) ++ (getD (take n rows) i outside ∷ []) = rw add-one (take-suc (take n rows) i outside f) in
+      ap rowsText e ∙ texts-join (take i (take n rows)) (getD (take n rows) i outside ∷ [])
+      ∙ ap (λ (r : Row). rowsText (take i (take n rows)) ++ (10 ∷ (rowText r ++ []))) (getD-take n rows i outside h)
+      ∙ ap (λ (l : List ℕ). rowsText (take i (take n rows)) ++ (10 ∷ l)) (append-nil (rowText (getD rows i outside)))
+
+  pub text-used : n ≤ i → rowsText (take i (take n rows)) ≡ rowsText (take n rows)
+  text-used h = let k : length (take n rows) ≤ i = rw length-take (omega arith) in ap rowsText (take-all i (take n rows) k)
+
+  pub text-left : length rows ≤ i → rowsText (take i (take n rows)) ≡ rowsText (take n rows)
+  text-left h = let k : length (take n rows) ≤ i = rw length-take (omega arith) in ap rowsText (take-all i (take n rows) k)
+
+pub no-text : {at r : ℕ} (b : List ℕ) → r ≡ told b (at + 0) → Put at (rowsText []) b b r
+unfolding rowsText
+no-text b e = record { place = e; holds = refl }

@@ -1,0 +1,66 @@
+use Prim.Native.Nat.{_≤_, _-_}
+use mathlib.Core.Path.{_≡_, refl, sym, _∙_}
+use mathlib.Core.List.{[]}
+use lib.ListN.{take, drop}
+use Rattle.body.specs.Rows.{newRunways}
+use Rattle.body.proofs.Loops.{none-used, none-left, new-hit, new-miss, new-none}
+use borrow.Author.Needs.{needs}
+use Rattle.body.proofs.all_new.Statement.{statement}
+use Rattle.body.proofs.all_new.Tie as tie
+
+abbrev Inv-loop : tie.InvT-loop
+Inv-loop count rows i₀ i = (i ≤ 8) × (newRunways [] (take count rows) ≡ newRunways (take i rows) (drop i (take count rows)))
+
+abbrev μ-loop : tie.MeasureT-loop
+μ-loop count rows i₀ i = 8 - i
+
+loop-holds : tie.Need-loop-holds Inv-loop μ-loop
+loop-holds c = (search needs, refl)
+
+returns : tie.Need-returns Inv-loop μ-loop
+returns c = let a = c .before .before .before .args in let l = c .before .before .loop in sym (l .inv .1 ∙ new-none (take (l .i) (a .t1)) (none-used (a .t1) (a .count) (l .i) (search needs)))
+
+cast-r : tie.Need-cast-r Inv-loop μ-loop
+cast-r c = search needs
+
+mul-r : tie.Need-mul-r Inv-loop μ-loop
+mul-r c = search needs
+
+array-copy-out-r : tie.Need-array-copy-out-r Inv-loop μ-loop
+array-copy-out-r c = search needs
+
+is-among-requires : tie.Need-is-among-requires Inv-loop μ-loop
+is-among-requires c κs = search needs
+
+returns-2 : tie.Need-returns-2 Inv-loop μ-loop
+returns-2 c = let a = c .before .before .before .before .before .before .args in let l = c .before .before .before .before .before .loop in sym (l .inv .1 ∙ new-hit (a .t1) (a .count) (l .i) (search needs) (search needs) (sym (c .before .is-among .ensures) ∙ c .if2 .taken))
+
+add-i : tie.Need-add-i Inv-loop μ-loop
+add-i c = search needs
+
+loop-less : tie.Need-loop-less Inv-loop μ-loop
+loop-less c = search needs
+
+loop-again : tie.Need-loop-again Inv-loop μ-loop
+loop-again c = let a = c .before .before .before .before .before .before .args in let l = c .before .before .before .before .before .loop in (search needs, l .inv .1 ∙ new-miss (a .t1) (a .count) (l .i) (search needs) (search needs) (sym (c .before .is-among .ensures) ∙ c .if2 .left))
+
+returns-3 : tie.Need-returns-3 Inv-loop μ-loop
+returns-3 c = let a = c .before .before .args in let l = c .before .loop in sym (l .inv .1 ∙ new-none (take (l .i) (a .t1)) (none-left (a .t1) (a .count) (l .i) (search needs)))
+
+pub all-new-spec : {M : Type 1} → statement M
+all-new-spec =
+    tie.close
+    (tie.spec
+    Inv-loop
+    μ-loop
+    loop-holds
+    returns
+    cast-r
+    mul-r
+    array-copy-out-r
+    is-among-requires
+    returns-2
+    add-i
+    loop-less
+    loop-again
+    returns-3)

@@ -1,0 +1,31 @@
+use Rattle.text.specs.Laws.Tests.{tests}
+use Rattle.body.specs.Held.{rowsAnswer}
+use Rattle.text.specs.Lines.{closed}
+use borrow.Author.Needs.{needs}
+use Rattle.body.proofs.rows_answer.Statement.{statement}
+use Rattle.body.proofs.rows_answer.Tie as tie
+use Rattle.body.proofs.rows_answer.Reads as reads
+use Rattle.body.proofs.rows_answer.Lts as lts
+use Rattle.body.proofs.no_rows.Reads as no-rows-reads
+
+-- src/lib.rt:338:9
+no-rows-requires : tie.Need-no-rows-requires
+no-rows-requires c κs = search needs
+
+-- src/lib.rt:338:9
+returns : tie.Need-returns
+unfolding rowsAnswer closed
+returns c = simp (← (c .no-rows .ensures)) (search tests)
+
+-- src/lib.rt:341:9
+returns-2 : tie.Need-returns-2
+unfolding rowsAnswer closed
+returns-2 c = search tests
+
+-- src/lib.rt:334:1
+returns-3 : tie.Need-returns-3
+unfolding rowsAnswer closed
+returns-3 c = search tests
+
+pub rows-answer-spec : {M : Type 1} → statement M
+rows-answer-spec = tie.close (tie.spec no-rows-requires returns returns-2 returns-3)

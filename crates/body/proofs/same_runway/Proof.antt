@@ -1,0 +1,19 @@
+use Rattle.text.specs.Laws.Tests.{tests}
+use Rattle.body.specs.Rows.{sameRunway}
+use Rattle.body.proofs.same_runway.Statement.{statement}
+use Rattle.body.proofs.same_runway.Tie as tie
+use Rattle.body.proofs.same_runway.Reads as reads
+use Rattle.body.proofs.same_runway.Lts as lts
+
+-- src/lib.rt:54:9
+returns : tie.Need-returns
+unfolding sameRunway
+returns c = search tests
+
+-- src/lib.rt:50:1
+returns-2 : tie.Need-returns-2
+unfolding sameRunway
+returns-2 c = search tests
+
+pub same-runway-spec : {M : Type 1} → statement M
+same-runway-spec = tie.close (tie.spec returns returns-2)

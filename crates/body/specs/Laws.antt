@@ -1,0 +1,5 @@
+pub mod Out
+pub mod Rows
+pub mod Remarks
+pub mod Size
+pub mod Parts

@@ -1,0 +1,172 @@
+-- What stands below the rows is read exactly if its lines are typings of it.
+use Prim.Native.Nat.{ℕ, _≤_}
+use mathlib.Core.Path.{_≡_, refl, sym, subst, _∙_, ap}
+use mathlib.Core.List.{List, [], _∷_}
+use mathlib.Core.Bool.{Bool, true, false}
+use lib.Dec.{lit<, lit≤}
+use borrow.Author.Tests.{leb-true}
+use native.Mathlib.Omega.{arith}
+use Rattle.text.specs.Choice.{pick, _and_, isEmpty}
+use Rattle.text.specs.Piece.{Piece, Typed, Typing, verbatim}
+use Rattle.text.specs.Read.{got}
+use Rattle.text.specs.Lines.{closed, opened}
+use Rattle.text.specs.Laws.Base.{true-false, and-1, guard-got}
+use Rattle.text.specs.Laws.Lines.{Tells, whole-sound, whole-complete}
+use Rattle.items.specs.declared.Item.{Item}
+use Rattle.items.specs.Awareness.{validItems, soundItems, inOrder, awarenessPieces, wholeAwareness}
+use Rattle.items.specs.Language.{validLanguage, wholeLanguage}
+use Rattle.items.specs.Laws.Awareness.{awareness-laws}
+use Rattle.items.specs.Laws.Language.{language-laws}
+use Rattle.body.specs.Out.{refuse, taken, fit, atEnd}
+use Rattle.body.specs.Rows.{After, finished, more}
+use Rattle.body.specs.Remarks.{noneOrLanguage, languageLines, remarkLines, Remarks, remarks, readLanguageLine, readRemarks}
+use Rattle.body.specs.Laws.Out.{no-refuse, took, fit-took, end-took, Numbered, fit-numbered, pick-numbered, end-numbered}
+use Rattle.body.specs.Laws.Rows.{Follows, closed-tells, open-tells, Told, last-line, one-line, told, told-some, Tail, nothing, something, opened-closed, opened-open}
+
+pub record Remarked (after : After) (x : Remarks) : Type 0 where
+  pub items : validItems (x .items) ≡ true
+  pub language : noneOrLanguage (x .language) ≡ true
+  pub follows : Follows after (remarkLines (x .items) (x .language))
+
+pub no-items : validItems [] ≡ true
+unfolding validItems soundItems inOrder _and_
+no-items = refl
+
+language-some : (p : List ℕ) → validLanguage p ≡ true → isEmpty p ≡ false
+unfolding validLanguage
+language-some [] v = let k = leb-true 2 0 (and-1 _ _ v) in absurd (omega arith)
+language-some (c ∷ p) v = refl
+
+none-or : (p : List ℕ) → validLanguage p ≡ true → noneOrLanguage p ≡ true
+unfolding noneOrLanguage
+none-or p v = rw (language-some p v) v
+
+-- remarks that are there
+with-language : (is : List Item) (p : List ℕ) → isEmpty p ≡ false → remarkLines is p ≡ [] ∷ awarenessPieces is ∷ verbatim p ∷ []
+unfolding _and_
+with-language is [] h = true-false h
+with-language [] (c ∷ p) h = refl
+with-language (i ∷ is) (c ∷ p) h = refl
+
+with-items : (is : List Item) → isEmpty is ≡ false → remarkLines is [] ≡ [] ∷ awarenessPieces is ∷ []
+unfolding _and_
+with-items [] h = true-false h
+with-items (i ∷ is) h = refl
+
+items-took : {l : List ℕ} {is : List Item} {r : List ℕ} → wholeAwareness l ≡ got is r → (validItems is ≡ true) × Typing (awarenessPieces is) l
+unfolding wholeAwareness
+items-took e = whole-sound awareness-laws e
+
+items-told : (is : List Item) {l : List ℕ} → validItems is ≡ true → Typing (awarenessPieces is) l → wholeAwareness l ≡ got is []
+unfolding wholeAwareness
+items-told is v t = whole-complete awareness-laws is v t
+
+language-took : (m : List ℕ) {p r : List ℕ} → wholeLanguage m ≡ got p r → (validLanguage p ≡ true) × Typing (verbatim p) m
+unfolding wholeLanguage
+language-took m {p} {r} e =
+    let f = guard-got (validLanguage m) e .1 in
+    let q : r ≡ [] = cc in
+    let x = language-laws .sound e in
+    (x .0, subst (Typed (verbatim p) m) q (x .1))
+
+pub remarks-sound : (after : After) {x : Remarks} → readRemarks after ≡ taken x → Remarked after x
+unfolding _and_ noneOrLanguage
+remarks-sound finished e = took (Remarked finished) e (record { items = no-items; language = refl; follows = refl })
+remarks-sound (more []) e = no-refuse e
+remarks-sound (more (l ∷ ls)) {x} e =
+    let f = fit-took 8 (wholeAwareness (opened l)) e in
+    let w = items-took (f .one) in
+    go (f .val) (w .0) (w .1) (closed l) refl (isEmpty (f .val)) refl (f .two)
+  where
+    behind : (is : List Item) → validItems is ≡ true → Typing (awarenessPieces is) (opened l) → closed l ≡ false → (ls : List (List ℕ)) → readLanguageLine is ls ≡ taken x → Remarked (more (l ∷ ls)) x
+    behind is v t c [] f = no-refuse f
+    behind is v t c (k ∷ ks) f = pl (closed k) refl f
+      where
+        pl : (b : Bool) → closed k ≡ b → pick b (fit 9 (wholeLanguage (opened k)) (λ p. atEnd ks (remarks is p))) (refuse 4) ≡ taken x → Remarked (more (l ∷ k ∷ ks)) x
+        pl false q g = no-refuse g
+        pl true q g =
+            let y = fit-took 9 (wholeLanguage (opened k)) g in
+            let z = language-took (opened k) (y .one) in
+            let d = end-took ks (y .two) in
+            took (Remarked (more (l ∷ k ∷ ks))) (d .1) (record {
+              items = v;
+              language = none-or (y .val) (z .0);
+              follows = (awarenessPieces is ∷ verbatim (y .val) ∷ [], with-language is (y .val) (language-some (y .val) (z .0)), open-tells l c t (closed-tells k q (d .0) (z .1)));
+            })
+
+    go : (is : List Item) → validItems is ≡ true → Typing (awarenessPieces is) (opened l) → (c : Bool) → closed l ≡ c → (b : Bool) → isEmpty is ≡ b
+        → pick c (pick b (refuse 8) (atEnd ls (remarks is []))) (readLanguageLine is ls) ≡ taken x → Remarked (more (l ∷ ls)) x
+    go is v t true c true b f = no-refuse f
+    go is v t true c false b f =
+        let d = end-took ls f in
+        took (Remarked (more (l ∷ ls))) (d .1) (record { items = v; language = refl; follows = (awarenessPieces is ∷ [], with-items is b, closed-tells l c (d .0) t) })
+    go is v t false c b q f = behind is v t c ls f
+
+-- the other way
+abbrev below : List Item → List ℕ → List (List Piece)
+below is p = awarenessPieces is ∷ languageLines p
+
+language-read : (is : List Item) (p : List ℕ) {ls : List (List ℕ)} → validLanguage p ≡ true → Tells (verbatim p ∷ []) ls → readLanguageLine is ls ≡ taken (remarks is p)
+unfolding wholeLanguage
+language-read is p {ls} v t = go (told t)
+  where
+    go : Told (verbatim p) [] ls → readLanguageLine is ls ≡ taken (remarks is p)
+    go (last-line l k e f q u) =
+        let o = opened-closed l k q in
+        let w : wholeLanguage (opened k) ≡ got p [] = ap wholeLanguage (o .1) ∙ language-laws .complete p v u refl in
+        ap (readLanguageLine is) f ∙ rw (w, o .0)
+    go (one-line l ls′ f u w) = true-false (told-some w)
+
+told-below : (is : List Item) (p : List ℕ) {ls : List (List ℕ)} → validItems is ≡ true → noneOrLanguage p ≡ true → (isEmpty p ≡ true → isEmpty is ≡ false) → Tells (below is p) ls → readRemarks (more ls) ≡ taken (remarks is p)
+unfolding noneOrLanguage
+told-below is [] {ls} v w h t = go (told t)
+  where
+    go : Told (awarenessPieces is) [] ls → readRemarks (more ls) ≡ taken (remarks is [])
+    go (last-line l k e f q u) =
+        let o = opened-closed l k q in
+        ap (λ k. readRemarks (more k)) f ∙ rw (ap wholeAwareness (o .1) ∙ items-told is v u, o .0, h refl)
+    go (one-line l ls′ f u x) = true-false (told-some x)
+told-below is (c ∷ p) {ls} v w h t = go (told t)
+  where
+    go : Told (awarenessPieces is) (verbatim (c ∷ p) ∷ []) ls → readRemarks (more ls) ≡ taken (remarks is (c ∷ p))
+    go (last-line l k e f q u) = let z : _≡_ {A = ℕ} 0 1 = cc in absurd (omega arith)
+    go (one-line l ls′ f u x) =
+        let o = opened-open awareness-laws is v u in
+        ap (λ k. readRemarks (more k)) f ∙ rw (ap wholeAwareness (o .1) ∙ items-told is v u, o .0) (language-read is (c ∷ p) w x)
+
+follows-none : (after : After) → Follows after [] → after ≡ finished
+follows-none finished h = refl
+follows-none (more ls) h = let e = h .1 in let z : _≡_ {A = ℕ} 0 1 = cc in absurd (omega arith)
+
+follows-some : (after : After) (qss : List (List Piece)) → Follows after ([] ∷ qss) → (ls : List (List ℕ)) × (after ≡ more ls) × Tells qss ls
+follows-some finished qss h = let z : _≡_ {A = ℕ} 0 1 = cc in absurd (omega arith)
+follows-some (more ls) qss h = let e = h .1 in let q : h .0 ≡ qss = cc in (ls, refl, subst (λ k. Tells k ls) q (h .2))
+
+some-complete : (after : After) (is : List Item) (p : List ℕ) → validItems is ≡ true → noneOrLanguage p ≡ true → (isEmpty p ≡ true → isEmpty is ≡ false) → Follows after ([] ∷ below is p) → readRemarks after ≡ taken (remarks is p)
+some-complete after is p v w h f =
+    let g = follows-some after (below is p) f in
+    ap readRemarks (g .1) ∙ told-below is p v w h (g .2)
+
+pub remarks-complete : (after : After) (is : List Item) (p : List ℕ) → validItems is ≡ true → noneOrLanguage p ≡ true → Follows after (remarkLines is p) → readRemarks after ≡ taken (remarks is p)
+unfolding _and_
+remarks-complete after [] [] v w f = ap readRemarks (follows-none after f)
+remarks-complete after [] (c ∷ p) v w f = some-complete after [] (c ∷ p) v w (λ e. true-false (sym e)) f
+remarks-complete after (i ∷ is) [] v w f = some-complete after (i ∷ is) [] v w (λ e. refl) f
+remarks-complete after (i ∷ is) (c ∷ p) v w f = some-complete after (i ∷ is) (c ∷ p) v w (λ e. refl) f
+
+pub remarks-tail : (is : List Item) (p : List ℕ) → Tail (remarkLines is p)
+unfolding _and_
+remarks-tail [] [] = nothing
+remarks-tail [] (c ∷ p) = something
+remarks-tail (i ∷ is) [] = something
+remarks-tail (i ∷ is) (c ∷ p) = something
+
+-- every refusal below the rows has a number
+language-numbered : (is : List Item) (ls : List (List ℕ)) → Numbered (readLanguageLine is ls)
+language-numbered is [] = (lit< tt, lit≤ tt)
+language-numbered is (l ∷ ls) = pick-numbered (closed l) _ _ (fit-numbered (wholeLanguage (opened l)) _ (lit< tt, lit≤ tt) (λ p. end-numbered ls (remarks is p))) (lit< tt, lit≤ tt)
+
+pub remarks-numbered : (after : After) → Numbered (readRemarks after)
+remarks-numbered finished = tt
+remarks-numbered (more []) = (lit< tt, lit≤ tt)
+remarks-numbered (more (l ∷ ls)) = fit-numbered (wholeAwareness (opened l)) _ (lit< tt, lit≤ tt) (λ is. pick-numbered (closed l) _ _ (pick-numbered (isEmpty is) _ _ (lit< tt, lit≤ tt) (end-numbered ls (remarks is []))) (language-numbered is ls))

@@ -1,0 +1,91 @@
+-- The rows of a notice: which are valid, the latest time, and how they are read.
+use Prim.Native.Nat.{ℕ, zero, suc}
+use mathlib.Core.List.{List, [], _∷_, _++_}
+use mathlib.Core.Bool.{Bool, true, false, not}
+use lib.Dec.{eqb, leb}
+use lib.ListN.{length, take, drop}
+use Rattle.text.specs.Choice.{pick, _and_, all, isEmpty}
+use Rattle.text.specs.Lines.{closed, opened}
+use Rattle.text.specs.Arrays.{pad}
+use Rattle.runway.specs.Time.{later}
+use Rattle.row.specs.declared.Row.{Row}
+use Rattle.row.specs.Row.{validRow, blankRow, isBlankRow}
+use Rattle.row.specs.Reading.{wholeRow}
+use Rattle.row.specs.Writing.{rowText}
+use Rattle.body.specs.declared.Rows.{Rows}
+use Rattle.body.specs.Out.{Out, refuse, taken, fit, atEnd}
+
+-- "1 to 8 runway rows"
+abbrev pub mostRows : ℕ
+mostRows = 8
+
+-- the rows that the array holds
+abbrev pub rowsOf : Rows → List Row
+rowsOf r = take (r .count) (r .rows)
+
+-- a list of rows, zeros behind it
+abbrev pub makeRows : List Row → Rows
+makeRows rs = record { count = length rs; rows = pad mostRows blankRow rs }
+
+unfoldable pub sameRunway : Row → Row → Bool
+sameRunway a b = eqb (a .number) (b .number) and eqb (a .side) (b .side)
+
+-- the row's runway is one of those seen
+unfoldable pub isAmong : Row → List Row → Bool
+isAmong r [] = false
+isAmong r (s ∷ ss) = pick (sameRunway s r) true (isAmong r ss)
+
+-- "No runway twice": neither among the rows, nor one of those seen before
+unfoldable pub newRunways : List Row → List Row → Bool
+newRunways seen [] = true
+newRunways seen (r ∷ rs) = not (isAmong r seen) and newRunways (seen ++ (r ∷ [])) rs
+
+-- of two times the later
+unfoldable pub latestOf : ℕ → ℕ → ℕ
+latestOf t s = pick (later s t) s t
+
+-- the latest of a time and those of the rows
+unfoldable pub latestFrom : ℕ → List Row → ℕ
+latestFrom t [] = t
+latestFrom t (r ∷ rs) = latestFrom (latestOf t (r .time)) rs
+
+-- "The heading's time is the latest row time"; of no row it is 0
+unfoldable pub latest : List Row → ℕ
+latest [] = 0
+latest (r ∷ rs) = latestFrom (r .time) rs
+
+unfoldable pub validRows : Rows → Bool
+validRows r = leb 1 (r .count) and leb (r .count) mostRows and eqb (length (r .rows)) mostRows
+    and all validRow (rowsOf r) and newRunways [] (rowsOf r) and all isBlankRow (drop (r .count) (r .rows))
+
+-- the rows end by `)`, or by an empty line with these lines behind it
+pub data After : Type 0 where
+  finished : After
+  more : List (List ℕ) → After
+
+-- the rows, and what comes after them
+pub record Block : Type 0 where
+  pub rows : List Row
+  pub after : After
+
+abbrev pub block : List Row → After → Block
+block rs a = record { rows = rs; after = a }
+
+-- up to n more rows behind those seen
+unfoldable pub readRows : ℕ → List Row → List (List ℕ) → Out Block
+-- "a line or `)` missing"
+readRows n seen [] = refuse 4
+-- "an empty line ends the rows (4 while there is none)"
+readRows n seen ([] ∷ ls) = pick (isEmpty seen) (refuse 4) (taken (block seen (more ls)))
+-- "a ninth line that is not empty where a row may stand": 6 before the row's own rules
+readRows zero seen ((x ∷ l) ∷ ls) = refuse 6
+-- "any other line is read as a row", 5; "7 comes after the row's own rules"; `)` closes
+readRows (suc n) seen ((x ∷ l) ∷ ls) = fit 5 (wholeRow (opened (x ∷ l))) (λ r.
+    pick (isAmong r seen) (refuse 7)
+    (pick (closed (x ∷ l)) (atEnd ls (block (seen ++ (r ∷ [])) finished))
+    (readRows n (seen ++ (r ∷ [])) ls)))
+
+-- the rows' texts, each under the line before it
+unfoldable pub rowsText : List Row → List ℕ
+rowsText [] = []
+rowsText (r ∷ rs) = 10 ∷ (rowText r ++ rowsText rs)

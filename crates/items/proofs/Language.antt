@@ -1,0 +1,70 @@
+-- Plain language byte by byte, and in its array.
+use Prim.Native.Nat.{ℕ, zero, suc, _+_, _-_, _<_, _≤_}
+use mathlib.Core.Path.{_≡_, refl, sym, _∙_, ap}
+use mathlib.Core.List.{List, [], _∷_, _++_}
+use mathlib.Core.Bool.{Bool, true, false, not}
+use native.Mathlib.Omega.{arith}
+use lib.Dec.{eqb, leb}
+use lib.ListN.{length, drop, getD, take, replicate, length-replicate}
+use lib.Seq.{sets, sets-eq}
+use borrow.Author.Tests.{le-leb, eqb-true}
+use Rattle.text.specs.Choice.{pick, _and_, all, headIs}
+use Rattle.text.specs.Read.{Got, misfit, got, guard, andThen}
+use Rattle.text.specs.Names.{isPlainByte, readCount}
+use Rattle.text.specs.Held.{fits}
+use Rattle.text.specs.Arrays.{pad}
+use Rattle.items.specs.Language.{lastIs, validLanguage, wholeLanguage}
+use Rattle.items.specs.Held.{languageAnswer}
+use Rattle.items.specs.Laws.Language.{language-short}
+
+-- as many bytes of a class as there are
+all-counted : (p : ℕ → Bool) (m : List ℕ) → fits (readCount p (length m) m) ≡ all p m
+unfolding readCount _and_
+all-counted p [] = refl
+all-counted p (x ∷ m) = go (p x) (all-counted p m)
+  where
+    again : (g : Got (List ℕ)) → fits (andThen {A = ℕ × List ℕ} (andThen g (λ b r. got (x, b) r)) (λ q r. got (q .0 ∷ q .1) r)) ≡ fits g
+    again misfit = refl
+    again (got b r) = refl
+
+    go : (t : Bool) → fits (readCount p (length m) m) ≡ all p m
+        → fits (andThen {A = ℕ × List ℕ} (andThen (guard t (got x m)) (λ a k. andThen (readCount p (length m) k) (λ b r. got (a, b) r))) (λ q r. got (q .0 ∷ q .1) r)) ≡ (t and all p m)
+    go true h = again (readCount p (length m) m) ∙ h
+    go false h = refl
+
+last-byte : (c : ℕ) (l : List ℕ) → 0 < length l → lastIs c l ≡ eqb (getD l (length l - 1) 0) c
+unfolding lastIs
+last-byte c [] h = absurd (omega arith)
+last-byte c (x ∷ []) h = refl
+last-byte c (x ∷ y ∷ l) h =
+    let z : suc (suc (length l)) - 1 ≡ suc (suc (length l) - 1) = omega arith in
+    rw z (last-byte c (y ∷ l) (omega arith))
+
+first-byte : (p : ℕ → Bool) (l : List ℕ) → 0 < length l → headIs p l ≡ p (getD l 0 0)
+first-byte p [] h = absurd (omega arith)
+first-byte p (x ∷ l) h = refl
+
+-- of 2 to 400 bytes: the tests of the code
+pub language-tests : (l : List ℕ) → 2 ≤ length l → length l ≤ 400
+    → validLanguage l ≡ (fits (readCount isPlainByte (length l) l) and not (eqb 32 (getD l 0 0)) and eqb (getD l (length l - 1) 0) 46)
+unfolding validLanguage _and_
+language-tests l h k = rw (le-leb 2 (length l) h, le-leb (length l) 400 k, all-counted isPlainByte l, first-byte (eqb 32) l (omega arith), last-byte 46 l (omega arith))
+
+-- bytes that were put over zeros
+drop-zeros : (k n : ℕ) → k ≤ n → drop {A = ℕ} k (replicate n 0) ≡ replicate (n - k) 0
+drop-zeros zero n h = let z : n - 0 ≡ n = omega arith in rw z
+drop-zeros (suc k) zero h = absurd (omega arith)
+drop-zeros (suc k) (suc n) h = let z : suc n - suc k ≡ n - k = omega arith in rw z (drop-zeros k n (omega arith))
+
+pub over-zeros : (n : ℕ) (l : List ℕ) → length l ≤ n → sets (replicate n 0) 0 l ≡ pad n 0 l
+over-zeros n l h =
+    let z : 0 + length l ≡ length l = omega arith in
+    sets-eq l (replicate n 0) 0 (rw length-replicate (omega arith)) ∙ ap (λ (k : List ℕ). l ++ k) (ap (λ (i : ℕ). drop {A = ℕ} i (replicate n 0)) z ∙ drop-zeros (length l) n h)
+
+pub language-kept : (l b : List ℕ) → validLanguage l ≡ true → b ≡ sets (replicate 400 0) 0 l → record { fits = true; length = length l; bytes = b } ≡ languageAnswer (wholeLanguage l)
+unfolding wholeLanguage
+language-kept l b v e = let q = e ∙ over-zeros 400 l (language-short l v) in rw v (λ j. record { fits = true; length = length l; bytes = q j })
+
+pub no-language : (l : List ℕ) → validLanguage l ≡ false → languageAnswer misfit ≡ languageAnswer (wholeLanguage l)
+unfolding wholeLanguage
+no-language l v = rw v

@@ -1,0 +1,166 @@
+-- One step of each loop.
+use Prim.Native.Nat.{ℕ, zero, suc, _+_, _-_, _<_, _≤_}
+use mathlib.Core.Path.{_≡_, refl, sym, _∙_, ap}
+use mathlib.Core.List.{List, [], _∷_, _++_}
+use mathlib.Core.Bool.{Bool, true, false}
+use native.Mathlib.Numerals.{add-one}
+use native.Mathlib.Omega.{arith}
+use lib.Dec.{eqb, leb}
+use lib.ListN.{length, drop, getD, take, drop-of-length-le, length-drop, length-take, take-append-drop}
+use lib.Seq.{drop-cons, getD-take, drop-drop, drop-length, take-all, take-take, take-suc}
+use borrow.Author.Tests.{eq-eqb, ne-eqb, le-leb, lt-leb}
+use Rattle.text.specs.Choice.{pick, _and_, all, headIs}
+use Rattle.text.specs.Read.{Got, misfit, got}
+use Rattle.text.specs.Names.{readCount}
+use Rattle.text.specs.Held.{fits}
+use Rattle.text.specs.Arrays.{slots, isZero}
+use Rattle.text.specs.Laws.Held.{part-all}
+use Rattle.items.specs.Item.{sameBytes, validSlot, isNew, slotsFit, validItem}
+use Rattle.items.specs.Awareness.{inOrder, standsBehind, soundItems}
+use Rattle.items.specs.Laws.Order.{sound-on, sound-invalid, sound-misplaced}
+use Rattle.items.specs.Held.{SlotEnd}
+use Rattle.items.specs.declared.Item.{Item}
+
+-- a test of all that is left from a place on
+module _ {A : Type 0} (p : A → Bool) (z : A) (l : List A) (j : ℕ) where
+  pub all-end : length l ≤ j → all p (drop j l) ≡ true
+  all-end h = rw (drop-of-length-le l h)
+
+  pub all-on : j < length l → p (getD l j z) ≡ true → all p (drop j l) ≡ all p (drop (j + 1) l)
+  unfolding _and_
+  all-on h e = rw (add-one, drop-cons l j z h, e)
+
+  pub all-off : j < length l → p (getD l j z) ≡ false → all p (drop j l) ≡ false
+  unfolding _and_
+  all-off h e = rw (drop-cons l j z h, e)
+
+module _ (a b : List ℕ) (i : ℕ) where
+  pub same-end : length a ≤ i → i ≤ length b → sameBytes (drop i a) (drop i b) ≡ leb (length b) i
+  same-end h k = rw (drop-of-length-le a h) (go (drop i b) (length-drop i b))
+    where
+      go : (c : List ℕ) → length c ≡ length b - i → sameBytes [] c ≡ leb (length b) i
+      go [] e = sym (le-leb (length b) i (omega arith))
+      go (x ∷ c) e = sym (lt-leb (length b) i (omega arith))
+
+  pub same-short : i < length a → length b ≤ i → sameBytes (drop i a) (drop i b) ≡ false
+  same-short h k = rw (drop-cons a i 0 h, drop-of-length-le b k)
+
+  pub same-off : i < length a → i < length b → (getD a i 0 ≡ getD b i 0 → ⊥) → sameBytes (drop i a) (drop i b) ≡ false
+  unfolding _and_
+  same-off h k e = rw (drop-cons a i 0 h, drop-cons b i 0 k, ne-eqb (getD a i 0) (getD b i 0) e)
+
+  pub same-on : i < length a → i < length b → getD a i 0 ≡ getD b i 0 → sameBytes (drop i a) (drop i b) ≡ sameBytes (drop (i + 1) a) (drop (i + 1) b)
+  unfolding _and_
+  same-on h k e = rw (add-one i, drop-cons a i 0 h, drop-cons b i 0 k, e, eq-eqb (getD b i 0) (getD b i 0) refl)
+
+-- one byte of a class
+pub one-counted : (p : ℕ → Bool) (m : List ℕ) → fits (readCount p 1 m) ≡ headIs p m
+unfolding readCount
+one-counted p [] = refl
+one-counted p (x ∷ m) = go (p x)
+  where
+    go : (t : Bool) → fits (Rattle.text.specs.Read.andThen {A = ℕ × List ℕ} (Rattle.text.specs.Read.andThen (Rattle.text.specs.Read.guard t (got x m)) (λ a k. got (a, []) k)) (λ q r. got (q .0 ∷ q .1) r)) ≡ t
+    go true = refl
+    go false = refl
+
+-- the slot at a place
+module _ (f : List ℕ) (at : ℕ) where
+  pub slot-short : at ≤ length f → length f - at < 3 → SlotEnd f at (length f)
+  slot-short h k =
+      let q : length (drop at f) ≤ 3 = rw length-drop (omega arith) in
+      record {
+        behind = h;
+        within = omega arith;
+        slot = take-all (length f - at) (drop at f) (rw length-drop (omega arith)) ∙ sym (take-all 3 (drop at f) q);
+        rest = drop-length f ∙ sym (drop-of-length-le (drop at f) q);
+      }
+
+  pub slot-whole : at ≤ length f → 3 ≤ length f - at → SlotEnd f at (at + 3)
+  slot-whole h k = record {
+    behind = omega arith;
+    within = omega arith;
+    slot = let z : at + 3 - at ≡ 3 = omega arith in rw z;
+    rest = sym (drop-drop 3 at f);
+  }
+
+  module _ {e : ℕ} (s : SlotEnd f at e) (w : List ℕ) (left : ℕ) (h : 0 < left) where
+    pub new-off : sameBytes w (take (e - at) (drop at f)) ≡ true → isNew w (slots 3 left (drop at f)) ≡ false
+    unfolding isNew slots _and_
+    new-off q = let z : left ≡ suc (left - 1) = omega arith in let p = rw (s .slot) at q in rw (z, p)
+
+    pub new-on : sameBytes w (take (e - at) (drop at f)) ≡ false → isNew w (slots 3 left (drop at f)) ≡ isNew w (slots 3 (left - 1) (drop e f))
+    unfolding isNew slots _and_
+    new-on q = let z : left ≡ suc (left - 1) = omega arith in let p = rw (s .slot) at q in go (left - 1) z p
+      where
+        go : (n : ℕ) → left ≡ suc n → sameBytes w (take 3 (drop at f)) ≡ false → isNew w (slots 3 left (drop at f)) ≡ isNew w (slots 3 n (drop e f))
+        go n z p = rw (z, p, s .rest)
+
+pub new-end : (w : List ℕ) (left : ℕ) (f : List ℕ) → left ≤ 0 → isNew w (slots 3 left f) ≡ true
+unfolding isNew slots
+new-end w left f h = let z : left ≡ 0 = omega arith in rw z
+
+-- one taxiway of those that an item names
+module _ (f : List ℕ) (at left : ℕ) {e : ℕ} (s : SlotEnd f at e) (h : 0 < left) where
+  slots-step : slotsFit left (drop at f) ≡ (validSlot (take (e - at) (drop at f)) and (isNew (take (e - at) (drop at f)) (slots 3 (left - 1) (drop e f)) and slotsFit (left - 1) (drop e f)))
+  unfolding slotsFit
+  slots-step = let z : left ≡ suc (left - 1) = omega arith in ap (λ n. slotsFit n (drop at f)) z ∙ rw (s .slot, s .rest)
+
+  pub slots-invalid : validSlot (take (e - at) (drop at f)) ≡ false → slotsFit left (drop at f) ≡ false
+  unfolding _and_
+  slots-invalid v = slots-step ∙ rw v
+
+  pub slots-twice : validSlot (take (e - at) (drop at f)) ≡ true → isNew (take (e - at) (drop at f)) (slots 3 (left - 1) (take (length f - e) (drop e f))) ≡ false → slotsFit left (drop at f) ≡ false
+  unfolding _and_
+  slots-twice v n = let q = rw part-all at n in slots-step ∙ rw (v, q)
+
+  pub slots-on : validSlot (take (e - at) (drop at f)) ≡ true → isNew (take (e - at) (drop at f)) (slots 3 (left - 1) (take (length f - e) (drop e f))) ≡ true → slotsFit left (drop at f) ≡ slotsFit (left - 1) (drop e f)
+  unfolding _and_
+  slots-on v n = let q = rw part-all at n in slots-step ∙ rw (v, q)
+
+pub slots-end : (n : ℕ) (f : List ℕ) → n ≤ 0 → slotsFit n f ≡ all isZero f
+unfolding slotsFit
+slots-end n f h = let z : n ≡ 0 = omega arith in rw z
+
+-- the same of the first n
+module _ {A : Type 0} (p : A → Bool) (z : A) (l : List A) (n k : ℕ) where
+  pub front-end : n ≤ k → all p (drop k (take n l)) ≡ true
+  front-end h = all-end p z (take n l) k (rw length-take (omega arith))
+
+  pub front-out : length l ≤ k → all p (drop k (take n l)) ≡ true
+  front-out h = all-end p z (take n l) k (rw length-take (omega arith))
+
+  pub front-on : k < n → k < length l → p (getD l k z) ≡ true → all p (drop k (take n l)) ≡ all p (drop (k + 1) (take n l))
+  front-on h i e = all-on p z (take n l) k (rw length-take (omega arith)) (ap p (getD-take n l k z h) ∙ e)
+
+  pub front-off : k < n → k < length l → p (getD l k z) ≡ false → all p (drop k (take n l)) ≡ false
+  front-off h i e = all-off p z (take n l) k (rw length-take (omega arith)) (ap p (getD-take n l k z h) ∙ e)
+
+-- what stands past an array's end
+abbrev pub outside : Item
+outside = record { letter = 0; number = 0; side = 0; amount = 0; edge = 0; count = 0; taxiways = []; name = [] }
+
+-- the first n are the first k, the one behind them, and the others
+pub front-split : {A : Type 0} (z : A) (l : List A) (n k : ℕ) → k < n → k < length l → take n l ≡ take k l ++ (getD l k z ∷ drop (k + 1) (take n l))
+front-split z l n k h i =
+    let j : k < length (take n l) = rw length-take (omega arith) in
+    let o : k ≤ n = omega arith in
+    sym (take-append-drop k (take n l)) ∙ rw (take-take k n l o, add-one, drop-cons (take n l) k z j, getD-take n l k z h)
+
+-- the items of a record, one after the other
+module _ (l : List Item) (n k : ℕ) where
+  pub items-begin : soundItems (take 0 l) ≡ true
+  unfolding soundItems inOrder _and_
+  items-begin = refl
+
+  pub items-all : soundItems (take k l) ≡ true → length l ≤ k → k ≤ n → soundItems (take n l) ≡ true
+  items-all h e o = ap soundItems (take-all n l (omega arith) ∙ sym (take-all k l e)) ∙ h
+
+  module _ (h : k < n) (i : k < length l) where
+    pub items-on : soundItems (take k l) ≡ true → validItem (getD l k outside) ≡ true → standsBehind (take k l) (getD l k outside) ≡ true → soundItems (take (k + 1) l) ≡ true
+    items-on s v b = rw (add-one, take-suc l k outside i) (sound-on (getD l k outside) (take k l) s v b)
+
+    pub items-invalid : validItem (getD l k outside) ≡ false → soundItems (take n l) ≡ false
+    items-invalid v = ap soundItems (front-split outside l n k h i) ∙ sound-invalid (getD l k outside) (take k l) (drop (k + 1) (take n l)) v
+
+    pub items-misplaced : standsBehind (take k l) (getD l k outside) ≡ false → soundItems (take n l) ≡ false
+    items-misplaced b = ap soundItems (front-split outside l n k h i) ∙ sound-misplaced (getD l k outside) (take k l) (drop (k + 1) (take n l)) b

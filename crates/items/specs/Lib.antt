@@ -1,0 +1,9 @@
+-- Definitions first; what is proved of them is under Laws.
+pub mod Item
+pub mod ItemText
+pub mod ReadItem
+pub mod Awareness
+pub mod Language
+pub mod Held
+pub mod Tables
+pub mod Laws

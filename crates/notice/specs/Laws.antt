@@ -1,0 +1,4 @@
+pub mod Parts
+pub mod Lines
+pub mod Size
+pub mod Reading

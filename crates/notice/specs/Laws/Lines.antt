@@ -1,0 +1,205 @@
+-- Lines are read as good parts exactly if they are told by the parts' lines.
+use Prim.Native.Nat.{ℕ, _≤_}
+use mathlib.Core.Path.{_≡_, refl, sym, subst, _∙_, ap}
+use mathlib.Core.List.{List, [], _∷_, _++_, map}
+use mathlib.Core.Bool.{Bool, true, false}
+use lib.Dec.{eqb, lit<, lit≤}
+use borrow.Author.Tests.{eqb-true, eq-eqb}
+use Rattle.text.specs.Choice.{pick, _and_, all, isEmpty}
+use Rattle.text.specs.Piece.{Piece, Typed, Typing}
+use Rattle.text.specs.Read.{Got, got, whole}
+use Rattle.text.specs.Laws.Base.{true-false, inline, and-1, and-2, and-i}
+use Rattle.text.specs.Laws.Lines.{Tells, whole-sound, whole-complete, all-append, next as and-next}
+use Rattle.row.specs.declared.Row.{Row}
+use Rattle.row.specs.Row.{validRow, rowPieces}
+use Rattle.row.specs.Laws.Row.{row-laws}
+use Rattle.items.specs.declared.Item.{Item}
+use Rattle.items.specs.Item.{sameBytes}
+use Rattle.items.specs.Awareness.{validItems, awarenessPieces}
+use Rattle.items.specs.Laws.Awareness.{awareness-laws}
+use Rattle.items.specs.Laws.Language.{language-laws}
+use Rattle.heading.specs.Addresses.{readAddresses}
+use Rattle.heading.specs.Filing.{readFiling}
+use Rattle.heading.specs.Heading.{Heading, readHeading, serialPieces, readSerialLine, aerodromePieces, readAerodrome, isSerial, validTitle}
+use Rattle.heading.specs.Laws.Addresses.{addresses-laws}
+use Rattle.heading.specs.Laws.Filing.{filing-laws}
+use Rattle.heading.specs.Laws.Heading.{heading-laws, serial-line-laws, aerodrome-laws}
+use Rattle.body.specs.Out.{Out, refuse, taken, line}
+use Rattle.body.specs.Rows.{mostRows, latest, readRows}
+use Rattle.body.specs.Remarks.{remarkLines, languageLines, noneOrLanguage, readRemarks}
+use Rattle.body.specs.Laws.Out.{no-refuse, took, fit-took, next-took, line-numbered, next-numbered, pick-numbered, Numbered}
+use Rattle.body.specs.Laws.Rows.{rows-sound, rows-numbered, Told, last-line, one-line, told, rows-complete}
+use Rattle.body.specs.Laws.Remarks.{remarks-sound, remarks-complete, remarks-tail, remarks-numbered}
+use Rattle.notice.specs.declared.Record.{Record}
+use Rattle.notice.specs.Record.{makeRecord}
+use Rattle.notice.specs.Reading.{agreeing, readNotice}
+use Rattle.notice.specs.Laws.Parts.{Parts, made, partLines, Good, title-valid}
+
+-- bytes alike
+pub same-true : (a b : List ℕ) → sameBytes a b ≡ true → a ≡ b
+same-true [] [] h = refl
+same-true [] (y ∷ b) h = true-false (sym h)
+same-true (x ∷ a) [] h = true-false (sym h)
+same-true (x ∷ a) (y ∷ b) h = λ i. eqb-true x y (and-1 _ _ h) i ∷ same-true a b (and-2 _ _ h) i
+
+pub same-refl : (a : List ℕ) → sameBytes a a ≡ true
+same-refl [] = refl
+same-refl (x ∷ a) = and-i (eq-eqb x x refl) (same-refl a)
+
+-- inversion of a line, and of the agreement at the end
+record Line {A B : Type 0} (f : List ℕ → Got A) (ls : List (List ℕ)) (k : A → List (List ℕ) → Out B) (b : B) : Type 0 where
+  first : List ℕ
+  others : List (List ℕ)
+  is : ls ≡ first ∷ others
+  val : A
+  rest : List ℕ
+  reads : whole (f first) ≡ got val rest
+  goes : k val others ≡ taken b
+
+line-took : {A B : Type 0} (n : ℕ) (f : List ℕ → Got A) (ls : List (List ℕ)) {k : A → List (List ℕ) → Out B} {b : B} → line n f ls k ≡ taken b → Line f ls k b
+line-took n f [] e = no-refuse e
+line-took n f (l ∷ ls) e = let x = fit-took n (whole (f l)) e in record { first = l; others = ls; is = refl; val = x .val; rest = x .rest; reads = x .one; goes = x .two }
+
+record Agreed (h : Heading) (serial : ℕ) (aerodrome : List ℕ) (rows : List Row) (r s : Record) : Type 0 where
+  serials : h .title .serial ≡ serial
+  aerodromes : h .title .aerodrome ≡ aerodrome
+  times : h .time ≡ latest rows
+  same : taken r ≡ taken s
+
+agree-took : (h : Heading) (serial : ℕ) (aerodrome : List ℕ) (rows : List Row) (r : Record) {s : Record} → agreeing h serial aerodrome rows r ≡ taken s → Agreed h serial aerodrome rows r s
+unfolding agreeing
+agree-took h serial aerodrome rows r {s} e = go (eqb (h .title .serial) serial) refl (sameBytes (h .title .aerodrome) aerodrome) refl (eqb (h .time) (latest rows)) refl e
+  where
+    go : (a : Bool) → eqb (h .title .serial) serial ≡ a → (b : Bool) → sameBytes (h .title .aerodrome) aerodrome ≡ b → (c : Bool) → eqb (h .time) (latest rows) ≡ c
+        → pick a (pick b (pick c (taken r) (refuse 12)) (refuse 11)) (refuse 10) ≡ taken s → Agreed h serial aerodrome rows r s
+    go true p true q true t f = record { serials = eqb-true (h .title .serial) serial p; aerodromes = same-true (h .title .aerodrome) aerodrome q; times = eqb-true (h .time) (latest rows) t; same = f }
+    go true p true q false t f = no-refuse f
+    go true p false q c t f = no-refuse f
+    go false p b q c t f = no-refuse f
+
+pub record Taken (ls : List (List ℕ)) (r : Record) : Type 0 where
+  pub parts : Parts
+  pub good : Good parts
+  pub tells : Tells (partLines parts) ls
+  pub is : made parts ≡ r
+
+pub notice-sound : (ls : List (List ℕ)) {r : Record} → readNotice ls ≡ taken r → Taken ls r
+unfolding readNotice
+notice-sound ls {r} e =
+    let l₁ = line-took 2 readAddresses ls e in
+    let l₂ = line-took 2 readFiling (l₁ .others) (l₁ .goes) in
+    let l₃ = line-took 3 readHeading (l₂ .others) (l₂ .goes) in
+    let l₄ = line-took 4 readSerialLine (l₃ .others) (l₃ .goes) in
+    let l₅ = line-took 4 readAerodrome (l₄ .others) (l₄ .goes) in
+    let n₁ = next-took (readRows mostRows [] (l₅ .others)) (l₅ .goes) in
+    let n₂ = next-took (readRemarks (n₁ .val .after)) (n₁ .two) in
+    let a = agree-took (l₃ .val) (l₄ .val) (l₅ .val) (n₁ .val .rows) (makeRecord (l₁ .val) (l₂ .val) (l₃ .val .title) (n₁ .val .rows) (n₂ .val)) (n₂ .two) in
+    let w₁ = whole-sound addresses-laws (l₁ .reads) in
+    let w₂ = whole-sound filing-laws (l₂ .reads) in
+    let w₃ = whole-sound heading-laws (l₃ .reads) in
+    let w₄ = whole-sound serial-line-laws (l₄ .reads) in
+    let w₅ = whole-sound aerodrome-laws (l₅ .reads) in
+    let rs = rows-sound mostRows [] (l₅ .others) (n₁ .one) in
+    let rm = remarks-sound (n₁ .val .after) (n₂ .one) in
+    record {
+      parts = record { addresses = l₁ .val; filing = l₂ .val; heading = l₃ .val; rows = rs .new; remarks = n₂ .val };
+      good = record {
+        addresses = w₁ .0;
+        filing = w₂ .0;
+        heading = w₃ .0;
+        rows = record { valid = rs .valid; other = rs .other; few = rs .few; some = rs .some refl };
+        items = rm .items;
+        language = rm .language;
+        time = a .times ∙ ap latest (rs .is);
+      };
+      tells = subst (Tells _) (sym (l₁ .is ∙ ap (λ k. l₁ .first ∷ k) (l₂ .is ∙ ap (λ k. l₂ .first ∷ k) (l₃ .is ∙ ap (λ k. l₃ .first ∷ k) (l₄ .is ∙ ap (λ k. l₄ .first ∷ k) (l₅ .is))))))
+          (and-next (w₁ .1) (and-next (w₂ .1) (and-next (w₃ .1)
+          (and-next (subst (λ s. Typed (serialPieces s) (l₄ .first) []) (sym (a .serials)) (w₄ .1))
+          (and-next (subst (λ s. Typed (aerodromePieces s) (l₅ .first) []) (sym (a .aerodromes)) (w₅ .1))
+          (rs .tells (remarkLines (n₂ .val .items) (n₂ .val .language)) (rm .follows)))))));
+      is = ap (λ k. makeRecord (l₁ .val) (l₂ .val) (l₃ .val .title) k (n₂ .val)) (sym (rs .is)) ∙ took (λ s. makeRecord (l₁ .val) (l₂ .val) (l₃ .val .title) (n₁ .val .rows) (n₂ .val) ≡ s) (a .same) refl;
+    }
+
+-- the other way
+record LineOf (ps : List Piece) (tail : List (List Piece)) (ls : List (List ℕ)) : Type 0 where
+  first : List ℕ
+  others : List (List ℕ)
+  is : ls ≡ first ∷ others
+  typed : Typing ps first
+  tells : Tells tail others
+
+line-of : {ps : List Piece} {tail : List (List Piece)} {ls : List (List ℕ)} → isEmpty tail ≡ false → Tells (ps ∷ tail) ls → LineOf ps tail ls
+line-of {ps} {tail} {ls} h t = go (told t)
+  where
+    go : Told ps tail ls → LineOf ps tail ls
+    go (last-line l k e f q u) = true-false (sym (sym h ∙ ap isEmpty e))
+    go (one-line l ls′ f u w) = record { first = l; others = ls′; is = f; typed = u; tells = w }
+
+rows-some : (rs : List Row) (pss : List (List Piece)) → isEmpty rs ≡ false → isEmpty (map rowPieces rs ++ pss) ≡ false
+rows-some [] pss h = true-false h
+rows-some (r ∷ rs) pss h = refl
+
+-- the serial and the aerodrome of a good heading
+serial-of : (h : Heading) → validTitle (h .title) ≡ true → isSerial (h .title .serial) ≡ true
+unfolding validTitle
+serial-of h v = and-1 _ _ (and-2 _ _ v)
+
+pub notice-complete : (p : Parts) {ls : List (List ℕ)} → Good p → Tells (partLines p) ls → readNotice ls ≡ taken (made p)
+unfolding readNotice agreeing validTitle
+notice-complete p {ls} g t =
+    let l₁ = line-of refl t in
+    let l₂ = line-of refl (l₁ .tells) in
+    let l₃ = line-of refl (l₂ .tells) in
+    let l₄ = line-of refl (l₃ .tells) in
+    let l₅ = line-of (rows-some (p .rows) (remarkLines (p .remarks .items) (p .remarks .language)) (g .rows .some)) (l₄ .tells) in
+    let v = title-valid (p .heading) (g .heading) in
+    let w₁ = whole-complete addresses-laws (p .addresses) (g .addresses) (l₁ .typed) in
+    let w₂ = whole-complete filing-laws (p .filing) (g .filing) (l₂ .typed) in
+    let w₃ = whole-complete heading-laws (p .heading) (g .heading) (l₃ .typed) in
+    let w₄ = whole-complete serial-line-laws (p .heading .title .serial) (serial-of (p .heading) v) (l₄ .typed) in
+    let w₅ = whole-complete aerodrome-laws (p .heading .title .aerodrome) (and-2 _ _ (and-2 _ _ v)) (l₅ .typed) in
+    let b = rows-complete mostRows [] (p .rows) (remarks-tail (p .remarks .items) (p .remarks .language)) (g .rows .valid) (g .rows .other) (g .rows .few) (λ _. g .rows .some) (l₅ .tells) in
+    let m = remarks-complete (b .after) (p .remarks .items) (p .remarks .language) (g .items) (g .language) (b .follows) in
+    let is = l₁ .is ∙ ap (λ k. l₁ .first ∷ k) (l₂ .is ∙ ap (λ k. l₂ .first ∷ k) (l₃ .is ∙ ap (λ k. l₃ .first ∷ k) (l₄ .is ∙ ap (λ k. l₄ .first ∷ k) (l₅ .is)))) in
+    ap readNotice is ∙ rw (w₁, w₂, w₃, w₄, w₅, b .reads, m, eq-eqb (p .heading .title .serial) (p .heading .title .serial) refl, same-refl (p .heading .title .aerodrome), eq-eqb (p .heading .time) (latest (p .rows)) (g .time))
+
+-- every refusal has a number from 1 to 12
+agree-numbered : (h : Heading) (serial : ℕ) (aerodrome : List ℕ) (rows : List Row) (r : Record) → Numbered (agreeing h serial aerodrome rows r)
+unfolding agreeing
+agree-numbered h serial aerodrome rows r =
+    pick-numbered (eqb (h .title .serial) serial) _ _
+    (pick-numbered (sameBytes (h .title .aerodrome) aerodrome) _ _
+    (pick-numbered (eqb (h .time) (latest rows)) (taken r) (refuse 12) tt (lit< tt, lit≤ tt)) (lit< tt, lit≤ tt)) (lit< tt, lit≤ tt)
+
+pub notice-numbered : (ls : List (List ℕ)) → Numbered (readNotice ls)
+unfolding readNotice
+notice-numbered ls₁ =
+    line-numbered readAddresses ls₁ _ (lit< tt, lit≤ tt) (λ a ls₂. line-numbered readFiling ls₂ _ (lit< tt, lit≤ tt) (λ f ls₃. line-numbered readHeading ls₃ _ (lit< tt, lit≤ tt) (λ h ls₄.
+    line-numbered readSerialLine ls₄ _ (lit< tt, lit≤ tt) (λ s ls₅. line-numbered readAerodrome ls₅ _ (lit< tt, lit≤ tt) (λ p ls₆.
+    next-numbered (readRows mostRows [] ls₆) _ (rows-numbered mostRows [] ls₆) (λ b. next-numbered (readRemarks (b .after)) _ (remarks-numbered (b .after)) (λ x. agree-numbered h s p (b .rows) _)))))))
+
+-- every line of a notice stands within its line
+rows-inline : (rs : List Row) → all validRow rs ≡ true → all inline (map rowPieces rs) ≡ true
+rows-inline [] h = refl
+rows-inline (r ∷ rs) h = and-i (row-laws .within r (and-1 _ _ h)) (rows-inline rs (and-2 _ _ h))
+
+language-inline : (p : List ℕ) → noneOrLanguage p ≡ true → all inline (languageLines p) ≡ true
+unfolding noneOrLanguage
+language-inline [] v = refl
+language-inline (c ∷ p) v = and-i (language-laws .within (c ∷ p) v) refl
+
+remarks-inline : (is : List Item) (p : List ℕ) → validItems is ≡ true → noneOrLanguage p ≡ true → all inline (remarkLines is p) ≡ true
+unfolding inline
+remarks-inline is p v w = go (isEmpty is and isEmpty p)
+  where
+    go : (b : Bool) → all inline (pick b [] ([] ∷ awarenessPieces is ∷ languageLines p)) ≡ true
+    go true = refl
+    go false = and-i refl (and-i (awareness-laws .within is v) (language-inline p w))
+
+pub lines-inline : (p : Parts) → Good p → all inline (partLines p) ≡ true
+unfolding validTitle
+lines-inline p g =
+    let v = title-valid (p .heading) (g .heading) in
+    and-i (addresses-laws .within (p .addresses) (g .addresses)) (and-i (filing-laws .within (p .filing) (g .filing)) (and-i (heading-laws .within (p .heading) (g .heading))
+    (and-i (serial-line-laws .within (p .heading .title .serial) (serial-of (p .heading) v)) (and-i (aerodrome-laws .within (p .heading .title .aerodrome) (and-2 _ _ (and-2 _ _ v)))
+    (all-append inline (map rowPieces (p .rows)) (remarkLines (p .remarks .items) (p .remarks .language)) (rows-inline (p .rows) (g .rows .valid)) (remarks-inline (p .remarks .items) (p .remarks .language) (g .items) (g .language)))))))

@@ -1,0 +1,7 @@
+-- Definitions first; Theorems states demand 2 of them; what it rests on is under Laws.
+pub mod Record
+pub mod Notice
+pub mod Reading
+pub mod Writing
+pub mod Laws
+pub mod Theorems

@@ -1,0 +1,58 @@
+-- Reading a message: "1 first, then line by line, where the first line that doesn't fit decides; 10, 11, 12 in that order at the end".
+use Prim.Native.Nat.{ℕ}
+use mathlib.Core.List.{List, []}
+use mathlib.Core.Bool.{Bool}
+use lib.Dec.{eqb, leb}
+use lib.ListN.{length}
+use Rattle.text.specs.Choice.{pick}
+use Rattle.text.specs.Lines.{lines}
+use Rattle.row.specs.declared.Row.{Row}
+use Rattle.items.specs.Item.{sameBytes}
+use Rattle.heading.specs.Addresses.{readAddresses}
+use Rattle.heading.specs.Filing.{readFiling}
+use Rattle.heading.specs.Heading.{Heading, readHeading, readSerialLine, readAerodrome}
+use Rattle.body.specs.Out.{Out, refuse, taken, next, line}
+use Rattle.body.specs.Rows.{mostRows, latest, readRows}
+use Rattle.body.specs.Remarks.{readRemarks}
+use Rattle.notice.specs.declared.Record.{Record}
+use Rattle.notice.specs.declared.Reading.{Reading}
+use Rattle.notice.specs.Record.{makeRecord, blankRecord}
+
+-- "serials differ; aerodromes differ; heading time not the latest"
+unfoldable pub agreeing : Heading → ℕ → List ℕ → List Row → Record → Out Record
+agreeing h serial aerodrome rows r =
+    pick (eqb (h .title .serial) serial)
+    (pick (sameBytes (h .title .aerodrome) aerodrome)
+    (pick (eqb (h .time) (latest rows)) (taken r) (refuse 12))
+    (refuse 11))
+    (refuse 10)
+
+-- "A missing line 1 or 2 gives 2, a missing line 3 gives 3, any later one 4"
+unfoldable pub readNotice : List (List ℕ) → Out Record
+readNotice ls₁ =
+    line 2 readAddresses ls₁ (λ addresses ls₂.
+    line 2 readFiling ls₂ (λ filing ls₃.
+    line 3 readHeading ls₃ (λ heading ls₄.
+    line 4 readSerialLine ls₄ (λ serial ls₅.
+    line 4 readAerodrome ls₅ (λ aerodrome ls₆.
+    next (readRows mostRows [] ls₆) (λ block.
+    next (readRemarks (block .after)) (λ remarks.
+    agreeing heading serial aerodrome (block .rows) (makeRecord addresses filing (heading .title) (block .rows) remarks))))))))
+
+abbrev pub accepted : Record → Reading
+accepted r = record { refusal = 0; «record» = r }
+
+abbrev pub refused : ℕ → Reading
+refused n = record { refusal = n; «record» = blankRecord }
+
+-- the answer to a message
+abbrev pub result : Out Record → Reading
+result (refuse n) = refused n
+result (taken r) = accepted r
+
+-- "message over 4,096 bytes"
+abbrev pub longest : ℕ
+longest = 4096
+
+unfoldable pub reading : List ℕ → Reading
+reading m = pick (leb (length m) longest) (result (readNotice (lines m))) (refused 1)

@@ -1,0 +1,111 @@
+-- Demand 2: "A message of at most 4,096 bytes is accepted exactly when some valid record's text differs from it only by the four
+-- freedoms, and that record is the one returned. A written valid record reads back as that record."
+use Prim.Native.Nat.{ℕ, _≤_}
+use mathlib.Core.Path.{_≡_, refl, sym, subst, _∙_, ap}
+use mathlib.Core.List.{List}
+use mathlib.Core.Bool.{Bool, true, false}
+use mathlib.Core.Logic.{_↔_}
+use lib.Dec.{leb}
+use lib.ListN.{length}
+use borrow.Author.Tests.{leb-true, le-leb}
+use native.Mathlib.Omega.{arith}
+use Rattle.text.specs.Choice.{pick}
+use Rattle.text.specs.Piece.{Typing}
+use Rattle.text.specs.Lines.{lines, ended}
+use Rattle.text.specs.Laws.Typing.{canonical-typed}
+use Rattle.text.specs.Laws.Lines.{lines-sound, lines-complete}
+use Rattle.body.specs.Out.{Out, refuse, taken}
+use Rattle.notice.specs.declared.Record.{Record}
+use Rattle.notice.specs.declared.Reading.{Reading}
+use Rattle.notice.specs.declared.Written.{Written}
+use Rattle.notice.specs.Record.{validRecord, blankRecord}
+use Rattle.notice.specs.Notice.{noticeLines, notice, noticeText}
+use Rattle.notice.specs.Reading.{readNotice, accepted, refused, result, reading}
+use Rattle.notice.specs.Writing.{Wrote}
+use Rattle.notice.specs.Laws.Parts.{made, partLines, partsOf, lines-are, parts-kept, good-valid, valid-good, made-back}
+use Rattle.notice.specs.Laws.Lines.{notice-sound, notice-complete, notice-numbered, lines-inline}
+use Rattle.notice.specs.Laws.Size.{text-fits}
+use Rattle.notice.specs.Laws.Reading.{result-took, result-low}
+
+-- sound: an accepted reading's record is valid, the message is a typing of its notice, and has at most 4,096 bytes
+pub sound : (m : List ℕ) (r : Record) → reading m ≡ accepted r → (validRecord r ≡ true) × Typing (notice r) m × (length m ≤ 4096)
+unfolding reading notice
+sound m r e = go (leb (length m) 4096) refl e
+  where
+    go : (b : Bool) → leb (length m) 4096 ≡ b → pick b (result (readNotice (lines m))) (refused 1) ≡ accepted r → (validRecord r ≡ true) × Typing (ended (noticeLines r)) m × (length m ≤ 4096)
+    go false q f = let z = ap (λ x. x .refusal) f in absurd (omega arith)
+    go true q f =
+        let t = notice-sound (lines m) (result-took (readNotice (lines m)) (notice-numbered (lines m)) f) in
+        let n = lines-are (made (t .parts)) ∙ ap partLines (parts-kept (t .parts) (t .good)) in (
+          subst (λ s. validRecord s ≡ true) (t .is) (good-valid (t .parts) (t .good)),
+          subst (λ s. Typing (ended (noticeLines s)) m) (t .is) (subst (λ k. Typing (ended k) m) (sym n) (lines-sound (t .tells) m refl)),
+          leb-true (length m) 4096 q,
+        )
+
+-- complete: every typing of a valid record's notice of at most 4,096 bytes is accepted with that record
+pub complete : (m : List ℕ) (r : Record) → validRecord r ≡ true → Typing (notice r) m → length m ≤ 4096 → reading m ≡ accepted r
+unfolding reading notice noticeLines
+complete m r v t l =
+    let g = valid-good r v in
+    let s = lines-complete _ _ (lines-inline (partsOf r) g) t in
+    rw (le-leb (length m) 4096 l, notice-complete (partsOf r) g s) (ap accepted (made-back r v))
+
+-- every valid record's text has at most 4,096 bytes
+pub fits : (r : Record) → validRecord r ≡ true → length (noticeText r) ≤ 4096
+fits = text-fits
+
+-- a written valid record reads back as that record
+pub back : (r : Record) → validRecord r ≡ true → reading (noticeText r) ≡ accepted r
+unfolding noticeText
+back r v = complete (noticeText r) r v (canonical-typed (notice r)) (text-fits r v)
+
+-- refused means blank
+pub refused-blank : (m : List ℕ) → (reading m .refusal ≡ 0 → ⊥) → reading m .«record» ≡ blankRecord
+unfolding reading
+refused-blank m h = go (leb (length m) 4096) (readNotice (lines m)) h
+  where
+    go : (b : Bool) (o : Out Record) → (pick b (result o) (refused 1) .refusal ≡ 0 → ⊥) → pick b (result o) (refused 1) .«record» ≡ blankRecord
+    go true (refuse n) k = refl
+    go true (taken r) k = absurd (k refl)
+    go false o k = refl
+
+-- an accepted reading is its record
+pub accepted-is : (m : List ℕ) → reading m .refusal ≡ 0 → reading m ≡ accepted (reading m .«record»)
+accepted-is m e = λ i. record { refusal = e i; «record» = reading m .«record» }
+
+-- accepted exactly when some valid record's notice is typed so
+pub record Told (m : List ℕ) : Type 0 where
+  pub tells : Record
+  pub valid : validRecord tells ≡ true
+  pub typed : Typing (notice tells) m
+
+pub exactly : (m : List ℕ) → length m ≤ 4096 → (reading m .refusal ≡ 0) ↔ Told m
+exactly m l = (
+  λ e. let s = sound m (reading m .«record») (accepted-is m e) in record { tells = reading m .«record»; valid = s .0; typed = s .1 },
+  λ t. ap (λ x. x .refusal) (complete m (t .tells) (t .valid) (t .typed) l),
+)
+
+-- and that record is the one returned
+pub that-one : (m : List ℕ) → length m ≤ 4096 → (t : Told m) → reading m .«record» ≡ t .tells
+that-one m l t = ap (λ x. x .«record») (complete m (t .tells) (t .valid) (t .typed) l)
+
+-- so a message is a typing of at most one valid record's notice
+pub one-record : (m : List ℕ) (r s : Record) → validRecord r ≡ true → validRecord s ≡ true → length m ≤ 4096 → Typing (notice r) m → Typing (notice s) m → r ≡ s
+one-record m r s v w l t u = ap (λ x. x .«record») (sym (complete m r v t l) ∙ complete m s w u l)
+
+-- no two valid records have one text
+pub one-text : (r s : Record) → validRecord r ≡ true → validRecord s ≡ true → noticeText r ≡ noticeText s → r ≡ s
+one-text r s v w e = ap (λ x. x .«record») (sym (back r v) ∙ (ap reading e ∙ back s w))
+
+-- a reading's refusal is 0 to 12
+pub refusal-range : (m : List ℕ) → reading m .refusal ≤ 12
+unfolding reading
+refusal-range m = go (leb (length m) 4096)
+  where
+    go : (b : Bool) → pick b (result (readNotice (lines m))) (refused 1) .refusal ≤ 12
+    go true = result-low (readNotice (lines m)) (notice-numbered (lines m))
+    go false = omega arith
+
+-- writing's promise leaves no choice
+pub wrote-one : {r : Record} {b x y : List ℕ} {v w : Written} → Wrote r b x v → Wrote r b y w → (v ≡ w) × (x ≡ y)
+wrote-one p q = (p .answer ∙ sym (q .answer), p .holds ∙ sym (q .holds))

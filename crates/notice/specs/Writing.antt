@@ -1,0 +1,34 @@
+-- Writing a record: "13, 14: record invalid; buffer shorter than the text", and when two messages tell the same.
+use Prim.Native.Nat.{ℕ}
+use mathlib.Core.Path.{_≡_}
+use mathlib.Core.List.{List, [], _++_}
+use lib.Dec.{leb}
+use lib.ListN.{length, drop}
+use Rattle.text.specs.Choice.{pick}
+use Rattle.notice.specs.declared.Record.{Record}
+use Rattle.notice.specs.declared.Written.{Written}
+use Rattle.notice.specs.Record.{validRecord}
+use Rattle.notice.specs.Notice.{noticeText}
+
+-- "Refused writing reports length 0"
+abbrev pub unwritten : ℕ → Written
+unwritten n = record { refusal = n; length = 0 }
+
+-- the answer to a record and a buffer with room for so many bytes
+unfoldable pub writing : Record → ℕ → Written
+writing r room =
+    pick (validRecord r)
+    (pick (leb (length (noticeText r)) room) (record { refusal = 0; length = length (noticeText r) }) (unwritten 14))
+    (unwritten 13)
+
+-- "Accepted writing fills exactly the text's length; later bytes stay"; a refused one touches no byte
+unfoldable pub written : Record → List ℕ → List ℕ
+written r buffer =
+    pick (validRecord r)
+    (pick (leb (length (noticeText r)) (length buffer)) (noticeText r ++ drop (length (noticeText r)) buffer) buffer)
+    buffer
+
+-- what a writing promises
+pub record Wrote (r : Record) (before after : List ℕ) (w : Written) : Type 0 where
+  pub answer : w ≡ writing r (length before)
+  pub holds : after ≡ written r before
