@@ -1,0 +1,131 @@
+-- One law for each case of a step of the loops over places.
+use Prim.Native.Nat.{ℕ, suc, _+_, _<_, _≤_}
+use mathlib.Core.Path.{_≡_, refl, sym, _∙_, ap}
+use mathlib.Core.List.{List, [], _∷_}
+use mathlib.Core.Bool.{Bool, true, false}
+use lib.Dec.{ltb}
+use lib.ListN.{length, take, drop, getD, length-take, drop-of-length-le}
+use lib.Seq.{drop-cons, getD-take}
+use borrow.Author.Tests.{ltb-true, ltb-false, le-leb, eq-eqb}
+use native.Mathlib.Numerals.{add-one}
+use native.Mathlib.Omega.{arith}
+use Rattle.text.specs.Choice.{pick, _and_, all}
+use Rattle.row.specs.declared.Row.{Row}
+use Rattle.row.specs.Row.{isBlankRow}
+use Rattle.board.specs.declared.Runway.{Runway}
+use Rattle.board.specs.Board.{places, isAerodrome, blankRunway, isBlankRunway, rises, rising, validList, names, fitsPlace, fitPlaces}
+use Rattle.board.specs.Report.{placeOf}
+
+-- what is left from place i, of all and of the first n
+module _ {A : Type 0} (d : A) (l : List A) (i : ℕ) where
+  next-place : i < length l → drop i l ≡ getD l i d ∷ drop (i + 1) l
+  next-place h = rw add-one (drop-cons l i d h)
+
+  next-used : (n : ℕ) → i < length l → i < n → drop i (take n l) ≡ getD l i d ∷ drop (i + 1) (take n l)
+  next-used n f h =
+      let k : i < length (take n l) = rw length-take (omega arith) in
+      rw add-one (drop-cons (take n l) i d k) ∙ ap (λ a. a ∷ drop (i + 1) (take n l)) (getD-take n l i d h)
+
+none-used : {A : Type 0} (l : List A) (i n : ℕ) → n ≤ i → drop i (take n l) ≡ []
+none-used l i n h = let k : length (take n l) ≤ i = rw length-take (omega arith) in drop-of-length-le (take n l) k
+
+none-left : {A : Type 0} (l : List A) (i n : ℕ) → length l ≤ i → drop i (take n l) ≡ []
+none-left l i n h = let k : length (take n l) ≤ i = rw length-take (omega arith) in drop-of-length-le (take n l) k
+
+-- the first n runways of ws, looked at one by one
+module _ (n : ℕ) (ws : List Runway) (i : ℕ) where
+  abbrev left : List Runway
+  left = drop i (take n ws)
+
+  abbrev here : Runway
+  here = getD ws i blankRunway
+
+  pub rise-past : (v : Runway) → n ≤ i → true ≡ rising v left
+  unfolding rising
+  rise-past v h = rw (none-used ws i n h)
+
+  pub rise-end : (v : Runway) → length ws ≤ i → true ≡ rising v left
+  unfolding rising
+  rise-end v h = rw (none-left ws i n h)
+
+  pub place-past : (r : Row) → n ≤ i → placeOf r left ≡ 0
+  unfolding placeOf
+  place-past r h = rw (none-used ws i n h)
+
+  pub place-end : (r : Row) → length ws ≤ i → placeOf r left ≡ 0
+  unfolding placeOf
+  place-end r h = rw (none-left ws i n h)
+
+  module _ (f : i < length ws) (h : i < n) where
+    pub rise-on : (v : Runway) → rises v here ≡ true → rising v left ≡ rising here (drop (i + 1) (take n ws))
+    unfolding rising _and_
+    rise-on v e = ap (rising v) (next-used blankRunway ws i n f h) ∙ rw e
+
+    pub rise-off : (v : Runway) → rises v here ≡ false → false ≡ rising v left
+    unfolding rising _and_
+    rise-off v e = sym (ap (rising v) (next-used blankRunway ws i n f h) ∙ rw e)
+
+    pub place-hit : (r : Row) → names r here ≡ true → placeOf r left ≡ 0
+    unfolding placeOf
+    place-hit r e = ap (placeOf r) (next-used blankRunway ws i n f h) ∙ rw e
+
+    pub place-miss : (r : Row) → names r here ≡ false → placeOf r left ≡ suc (placeOf r (drop (i + 1) (take n ws)))
+    unfolding placeOf
+    place-miss r e = ap (placeOf r) (next-used blankRunway ws i n f h) ∙ rw e
+
+-- zeros from a place on
+module _ {A : Type 0} (p : A → Bool) (d : A) (l : List A) (i : ℕ) where
+  pub all-end : length l ≤ i → true ≡ all p (drop i l)
+  all-end h = rw (drop-of-length-le l h)
+
+  pub all-on : i < length l → p (getD l i d) ≡ true → all p (drop i l) ≡ all p (drop (i + 1) l)
+  unfolding _and_
+  all-on h e = ap (all p) (next-place d l i h) ∙ rw e
+
+  pub all-off : i < length l → p (getD l i d) ≡ false → false ≡ all p (drop i l)
+  unfolding _and_
+  all-off h e = sym (ap (all p) (next-place d l i h) ∙ rw e)
+
+-- rows in their places
+module _ (n : ℕ) (ws : List Runway) (rs : List Row) (i : ℕ) (d : Row) where
+  abbrev fits : Bool
+  fits = pick (ltb i n) (fitsPlace (getD ws i blankRunway) (getD rs i d)) (isBlankRow (getD rs i d))
+
+  fit-next : i < length ws → i < length rs → fitPlaces (drop i (take n ws)) (drop i rs) ≡ (fits and fitPlaces (drop (i + 1) (take n ws)) (drop (i + 1) rs))
+  unfolding fitPlaces
+  fit-next f h = ap (fitPlaces (drop i (take n ws))) (next-place d rs i h) ∙ go (ltb i n) refl
+    where
+      go : (t : Bool) → ltb i n ≡ t → fitPlaces (drop i (take n ws)) (getD rs i d ∷ drop (i + 1) rs)
+          ≡ (pick t (fitsPlace (getD ws i blankRunway) (getD rs i d)) (isBlankRow (getD rs i d)) and fitPlaces (drop (i + 1) (take n ws)) (drop (i + 1) rs))
+      go true e = let k = ltb-true i n e in ap (λ l. fitPlaces l (getD rs i d ∷ drop (i + 1) rs)) (next-used blankRunway ws i n f k)
+      go false e =
+          let k = ltb-false i n e in
+          ap (λ l. fitPlaces l (getD rs i d ∷ drop (i + 1) rs)) (none-used ws i n k)
+          ∙ ap (λ l. isBlankRow (getD rs i d) and fitPlaces l (drop (i + 1) rs)) (sym (none-used ws (i + 1) n (omega arith)))
+
+  pub fit-on : i < length ws → i < length rs → fits ≡ true → fitPlaces (drop i (take n ws)) (drop i rs) ≡ fitPlaces (drop (i + 1) (take n ws)) (drop (i + 1) rs)
+  unfolding _and_
+  fit-on f h e = fit-next f h ∙ rw e
+
+  pub fit-off : i < length ws → i < length rs → fits ≡ false → false ≡ fitPlaces (drop i (take n ws)) (drop i rs)
+  unfolding _and_
+  fit-off f h e = sym (fit-next f h ∙ rw e)
+
+pub fit-end : (ws : List Runway) (rs : List Row) (i : ℕ) → length rs ≤ i → true ≡ fitPlaces ws (drop i rs)
+unfolding fitPlaces
+fit-end [] rs i h = rw (drop-of-length-le rs h)
+fit-end (w ∷ ws) rs i h = rw (drop-of-length-le rs h)
+
+-- a list of the right size, its runways looked at
+module _ (a : List ℕ) (n : ℕ) (ws : List Runway) (letters : isAerodrome a ≡ true) (some : 1 ≤ n) (few : n ≤ places) (wide : length ws ≡ places) where
+  looked : validList a n ws ≡ (rising blankRunway (take n ws) and all isBlankRunway (drop n ws))
+  unfolding validList _and_
+  looked = rw (letters, le-leb 1 n some, le-leb n places few, eq-eqb (length ws) places wide)
+
+  pub list-on : rising blankRunway (take n ws) ≡ true → all isBlankRunway (drop n ws) ≡ validList a n ws
+  unfolding _and_
+  list-on e = sym (looked ∙ rw e)
+
+  pub list-off : rising blankRunway (take n ws) ≡ false → false ≡ validList a n ws
+  unfolding _and_
+  list-off e = sym (looked ∙ rw e)

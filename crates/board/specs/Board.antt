@@ -1,0 +1,103 @@
+-- The board: document 01, "The board".
+use Prim.Native.Nat.{ℕ}
+use mathlib.Core.List.{List, [], _∷_}
+use mathlib.Core.Bool.{Bool, true}
+use lib.Dec.{eqb, leb, ltb}
+use lib.ListN.{length, take, drop, replicate}
+use Rattle.text.specs.Choice.{pick, _and_, all}
+use Rattle.runway.specs.Runway.{validRunway}
+use Rattle.row.specs.declared.Row.{Row}
+use Rattle.row.specs.Row.{highestRunway, validRow, blankRow, isBlankRow}
+use Rattle.heading.specs.Letters.{isLetters}
+use Rattle.heading.specs.Heading.{aerodromeSize}
+use Rattle.board.specs.declared.Runway.{Runway}
+use Rattle.board.specs.declared.Board.{Board}
+use Rattle.board.specs.declared.Answer.{Answer}
+
+-- "1 to 8 runways", "eight places"
+abbrev pub places : ℕ
+places = 8
+
+-- the aerodrome's four letters
+unfoldable pub isAerodrome : List ℕ → Bool
+isAerodrome l = isLetters aerodromeSize l
+
+-- zeros stand for no runway
+abbrev pub blankRunway : Runway
+blankRunway = record { number = 0; side = 0 }
+
+unfoldable pub isBlankRunway : Runway → Bool
+isBlankRunway w = eqb (w .number) 0 and eqb (w .side) 0
+
+-- "by number, then none, L, C, R"
+unfoldable pub comesBefore : Runway → Runway → Bool
+comesBefore v w = pick (eqb (v .number) (w .number)) (ltb (v .side) (w .side)) (ltb (v .number) (w .number))
+
+-- a runway that may stand behind v
+unfoldable pub rises : Runway → Runway → Bool
+rises v w = validRunway highestRunway (w .number) (w .side) and comesBefore v w
+
+-- "rising": each behind the one before it, the first behind v
+unfoldable pub rising : Runway → List Runway → Bool
+rising v [] = true
+rising v (w ∷ ws) = rises v w and rising w ws
+
+-- "an aerodrome and 1 to 8 runways, rising", zeros past the count
+unfoldable pub validList : List ℕ → ℕ → List Runway → Bool
+validList aerodrome count runways =
+    isAerodrome aerodrome and leb 1 count and leb count places and eqb (length runways) places
+    and rising blankRunway (take count runways) and all isBlankRunway (drop count runways)
+
+-- the row names the runway
+unfoldable pub names : Row → Runway → Bool
+names r w = eqb (r .number) (w .number) and eqb (r .side) (w .side)
+
+-- "a shown row is valid and stands in its own runway's place"; an unreported place is zero
+unfoldable pub fitsPlace : Runway → Row → Bool
+fitsPlace w r = pick (isBlankRow r) true (validRow r and names r w)
+
+-- the runways' places, and behind them "every unused place is zero"
+unfoldable pub fitPlaces : List Runway → List Row → Bool
+fitPlaces [] rs = all isBlankRow rs
+fitPlaces (w ∷ ws) [] = true
+fitPlaces (w ∷ ws) (r ∷ rs) = fitsPlace w r and fitPlaces ws rs
+
+-- "eight places of one row"
+unfoldable pub validPlaces : ℕ → List Runway → List Row → Bool
+validPlaces count runways rows = eqb (length rows) places and fitPlaces (take count runways) rows
+
+-- the runways in use
+abbrev pub runwaysOf : Board → List Runway
+runwaysOf b = take (b .count) (b .runways)
+
+-- the board's rules
+unfoldable pub validBoard : Board → Bool
+validBoard b = validList (b .aerodrome) (b .count) (b .runways) and validPlaces (b .count) (b .runways) (b .rows)
+
+-- nothing reported
+abbrev pub noRows : List Row
+noRows = replicate places blankRow
+
+-- "blank means all zero"
+abbrev pub blankBoard : Board
+blankBoard = record { aerodrome = replicate aerodromeSize 0; count = 0; runways = replicate places blankRunway; rows = noRows }
+
+-- a board with nothing reported
+abbrev pub fresh : List ℕ → ℕ → List Runway → Board
+fresh aerodrome count runways = record { aerodrome = aerodrome; count = count; runways = runways; rows = noRows }
+
+-- a refusal number, 0 for taken, and the board afterwards
+abbrev pub answer : ℕ → Board → Answer
+answer n b = record { refusal = n; board = b }
+
+-- "17: aerodrome or runway list wrong, or a board handed in that breaks its rules"
+abbrev pub wrongBoard : ℕ
+wrongBoard = 17
+
+-- "A refused opening yields the blank board"
+abbrev pub refusedOpening : Answer
+refusedOpening = answer wrongBoard blankBoard
+
+-- "Opened with an aerodrome and 1 to 8 runways"
+unfoldable pub opening : List ℕ → ℕ → List Runway → Answer
+opening aerodrome count runways = pick (validList aerodrome count runways) (answer 0 (fresh aerodrome count runways)) refusedOpening

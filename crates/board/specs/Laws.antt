@@ -1,0 +1,6 @@
+pub mod Rules
+pub mod Shows
+pub mod Step
+pub mod Demand
+pub mod Writing
+pub mod Line
