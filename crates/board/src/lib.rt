@@ -400,7 +400,7 @@ fn runway_list(s: &[u8]) -> RunwayList
     let mut count: u8 = 0;
     let mut at: usize = 0;
     while at < s.len() {
-        if 8 <= count {
+        if MOST_RUNWAYS <= count {
             return no_list();
         }
         let found = spaced_runway(s, at);

@@ -3,3 +3,4 @@ pub mod Rows
 pub mod Remarks
 pub mod Size
 pub mod Parts
+pub mod Held

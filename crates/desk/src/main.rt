@@ -43,11 +43,7 @@ fn print_number(n: u8) -> bool {
         let text = [n + b'0', b'\n'];
         return print(&text);
     }
-    let text = [
-        n / 10 % 10 + b'0',
-        n % 10 + b'0',
-        b'\n',
-    ];
+    let text = [n / 10 % 10 + b'0', n % 10 + b'0', b'\n'];
     print(&text)
 }
 

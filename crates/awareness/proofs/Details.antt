@@ -1,0 +1,70 @@
+-- The readers of an item, step by step: a misfit ends them, and what fits goes on.
+use Prim.Native.Nat.{ℕ, _<_, _≤_}
+use mathlib.Core.Path.{_≡_, refl, sym, _∙_, ap}
+use mathlib.Core.List.{List}
+use mathlib.Core.Bool.{Bool, true, false}
+use native.Mathlib.Omega.{arith}
+use lib.ListN.{drop}
+use Rattle.text.specs.Choice.{pick, _and_}
+use Rattle.text.specs.Read.{Got, misfit, got, readText}
+use Rattle.text.specs.Names.{readName}
+use Rattle.text.specs.Numbers.{readDigits, readNumber}
+use Rattle.text.specs.Held.{Held, readWord}
+use Rattle.text.specs.Laws.Held.{held-text}
+use Rattle.text.specs.Laws.Numbers.{number-laws, digits-laws}
+use Rattle.text.specs.declared.Found.{Found}
+use Rattle.items.specs.ItemText.{edgeName}
+use Rattle.items.specs.ReadItem.{edges, sayings, saying}
+use Rattle.runway.specs.Held.{HeldRunway}
+use Rattle.runway.specs.declared.RunwayFound.{RunwayFound}
+use Rattle.items.specs.declared.Item.{Item}
+use Rattle.awareness.specs.Held.{Reads, HeldItem, noItem}
+use Rattle.awareness.specs.declared.ItemFound.{ItemFound}
+use Rattle.awareness.proofs.Names.{name-low}
+
+-- an answer that fits, and one that does not
+module _ {A : Type 0} {m : List ℕ} {g : Got A} {f : Bool} {v : A} {n : ℕ} (h : Reads m g f v n) where
+  pub read-got : f ≡ true → g ≡ got v (drop n m)
+  read-got e = h .says ∙ ap (λ (b : Bool). pick b (got v (drop n m)) misfit) e
+
+  pub read-off : f ≡ false → g ≡ misfit
+  read-off e = h .says ∙ ap (λ (b : Bool). pick b (got v (drop n m)) misfit) e
+
+-- a fixed text that stands there, or does not
+module _ (t m : List ℕ) (v : ℕ) {k : List ℕ} {r : Found} (h : Held k (readWord t v m) r) where
+  pub text-there : r .fits ≡ true → readText t m ≡ got tt (drop (r .next) k)
+  text-there e = held-text t m v h ∙ ap (λ (b : Bool). pick b (got tt (drop (r .next) k)) misfit) e
+
+  pub text-off : r .fits ≡ false → readText t m ≡ misfit
+  text-off e = held-text t m v h ∙ ap (λ (b : Bool). pick b (got tt (drop (r .next) k)) misfit) e
+
+-- what is read fits its field
+pub number-low : (m : List ℕ) {v : ℕ} {r : List ℕ} → readNumber 3 m ≡ got v r → v < 10000
+number-low m e = number-laws 2 .sound {m = m} e .0
+
+pub two-low : (m : List ℕ) {v : ℕ} {r : List ℕ} → readDigits 2 m ≡ got v r → v < 100
+two-low m e = digits-laws 1 .sound {m = m} e .0
+
+pub edge-low : (m : List ℕ) {v : ℕ} {r : List ℕ} → readName edgeName edges m ≡ got v r → v ≤ 255
+unfolding _and_
+edge-low m e = name-low edgeName edges m 255 refl e
+
+pub saying-low : (m : List ℕ) {v : ℕ} {r : List ℕ} → readName saying sayings m ≡ got v r → v ≤ 255
+unfolding _and_
+saying-low m e = name-low saying sayings m 255 refl e
+
+-- a runway that stands there, or does not
+module _ {m : List ℕ} {g : Got (ℕ × ℕ)} {r : RunwayFound} (h : HeldRunway m g r) where
+  pub runway-there : r .fits ≡ true → g ≡ got (r .number, r .side) (drop (r .next) m)
+  runway-there e = h .says ∙ ap (λ (b : Bool). pick b (got (r .number, r .side) (drop (r .next) m)) misfit) e
+
+  pub runway-off : r .fits ≡ false → g ≡ misfit
+  runway-off e = h .says ∙ ap (λ (b : Bool). pick b (got (r .number, r .side) (drop (r .next) m)) misfit) e
+
+-- no item was found
+pub unread : {m : List ℕ} {g : Got Item} {r : ItemFound} → r ≡ noItem → g ≡ misfit → HeldItem m g r
+unread {m} {g} {r} e h = record {
+  within = rw e (omega arith);
+  says = h ∙ sym (ap (λ (q : ItemFound). pick (q .fits) (got (q .item) (drop (q .next) m)) misfit) e);
+  blank = e ∙ sym (ap (λ (q : ItemFound). pick (q .fits) q noItem) e);
+}

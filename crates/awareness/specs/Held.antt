@@ -1,0 +1,38 @@
+-- What the code's answers say of the readers, and of the slots of an array.
+use Prim.Native.Nat.{ℕ, _≤_}
+use mathlib.Core.Path.{_≡_}
+use mathlib.Core.List.{List, map}
+use mathlib.Core.Bool.{Bool, false}
+use lib.ListN.{length, take, drop}
+use Rattle.text.specs.Choice.{pick}
+use Rattle.text.specs.Read.{Got, misfit, got}
+use Rattle.text.specs.Piece.{Piece, space, verbatim, layAll, _then_}
+use Rattle.text.specs.Arrays.{slots}
+use Rattle.items.specs.Item.{taxiwaySize, nameAtFront}
+use Rattle.items.specs.Awareness.{blankItem}
+use Rattle.items.specs.declared.Item.{Item}
+use Rattle.awareness.specs.declared.ItemFound.{ItemFound}
+
+-- an answer is the reading g of a part of m: whether it fits, what was read, and the place behind it
+pub record Reads {A : Type 0} (m : List ℕ) (g : Got A) (fits : Bool) (v : A) (next : ℕ) : Type 0 where
+  pub within : next ≤ length m
+  pub says : g ≡ pick fits (got v (drop next m)) misfit
+
+abbrev pub noItem : ItemFound
+noItem = record { fits = false; item = blankItem; next = 0 }
+
+-- the answer r is the reading g of an item in a part of m; a misfit is all zero
+pub record HeldItem (m : List ℕ) (g : Got Item) (r : ItemFound) : Type 0 where
+  pub within : r .next ≤ length m
+  pub says : g ≡ pick (r .fits) (got (r .item) (drop (r .next) m)) misfit
+  pub blank : r ≡ pick (r .fits) r noItem
+
+-- the first r bytes of f are its first slot, and the others lie behind it
+pub record FrontSlot (f : List ℕ) (r : ℕ) : Type 0 where
+  pub within : r ≤ length f
+  pub slot : take r f ≡ take taxiwaySize f
+  pub rest : drop r f ≡ drop taxiwaySize f
+
+-- the names in the first n slots of an array, a space before each
+abbrev pub taxiwayNames : ℕ → List ℕ → List Piece
+taxiwayNames n f = layAll (λ w. space then verbatim w) (map nameAtFront (slots taxiwaySize n f))

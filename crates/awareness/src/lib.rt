@@ -1,0 +1,409 @@
+// The items of the awareness line: reading the words of one and an item of a runway, and writing every item.
+
+ghost use mathlib.Core.Path.{_≡_};
+ghost use Prim.Native.Nat.{_≤_};
+ghost use lib.ListN.{length, drop};
+ghost use Rattle.text.specs.Held.{Held};
+ghost use Rattle.text.specs.Piece.{canonical, spell};
+ghost use Rattle.text.specs.Put.{Put};
+ghost use Rattle.text.specs.Names.{readName};
+ghost use Rattle.text.specs.Numbers.{readNumber, number};
+ghost use Rattle.items.specs.Item.{nameAtFront};
+ghost use Rattle.items.specs.ItemText.{edgeName, ofRunway, lengthText, bankText, ofTaxiways, poorTaxiways, poorApron, itemText, itemPieces};
+ghost use Rattle.items.specs.ReadItem.{openings, openingName, sayings, saying, taxiSayings, taxiSaying, edges, readLength, readBank, readDetail, readRunwayForm, runwayItem};
+ghost use Rattle.awareness.specs.Held.{Reads, HeldItem, FrontSlot, noItem, taxiwayNames};
+use items::Item;
+use items::blank_item;
+use runway::put_runway;
+use runway::read_runway;
+use text::CAPITALS_AND_DIGITS;
+use text::Found;
+use text::digits;
+use text::put;
+use text::put_digits;
+use text::run;
+use text::word;
+
+// An item at a place of a text, and the place behind it.
+pub struct ItemFound {
+    pub fits: bool,
+    pub item: Item,
+    pub next: usize,
+}
+
+// What a runway's item says besides its letter.
+struct DetailFound {
+    fits: bool,
+    edge: u8,
+    amount: u16,
+    next: usize,
+}
+
+const NO_DETAIL: DetailFound = DetailFound {
+    fits: false,
+    edge: 0,
+    amount: 0,
+    next: 0,
+};
+
+// The openings, by number.
+const OPENS_RUNWAY: u32 = 0;
+
+const OPENS_DRIFTING: u32 = 1;
+
+const OPENS_TAXIWAYS: u32 = 2;
+
+const OPENS_ALL_TAXIWAYS: u32 = 3;
+
+const OPENS_APRON: u32 = 4;
+
+const OPENS_ALL_APRONS: u32 = 5;
+
+const TAXIWAY_SIZE: usize = 3;
+
+// ---- Reading an item
+
+// The words that an item opens with.
+pub fn opening(s: &[u8]) -> Found
+    ensures { λ r. ⌜ Held (now (s .entry)) (readName openingName openings (now (s .entry))) r ⌝ }
+{
+    let a = word(s, 0, b"RWY", OPENS_RUNWAY);
+    if a.fits {
+        return a;
+    }
+    let b = word(s, 0, b"DRIFTING SNOW", OPENS_DRIFTING);
+    if b.fits {
+        return b;
+    }
+    let c = word(s, 0, b"TWY", OPENS_TAXIWAYS);
+    if c.fits {
+        return c;
+    }
+    let d = word(s, 0, b"ALL TWY POOR", OPENS_ALL_TAXIWAYS);
+    if d.fits {
+        return d;
+    }
+    let e = word(s, 0, b"APRON", OPENS_APRON);
+    if e.fits {
+        return e;
+    }
+    word(s, 0, b"ALL APRON POOR", OPENS_ALL_APRONS)
+}
+
+// What is said of a runway.
+fn saying(s: &[u8], i: usize) -> Found
+    ensures { λ r. ⌜ Held (now (s .entry)) (readName saying sayings (drop i (now (s .entry)))) r ⌝ }
+{
+    let a = word(s, i, b" REDUCED TO", b'I' as u32);
+    if a.fits {
+        return a;
+    }
+    let b = word(s, i, b" LOOSE SAND", b'K' as u32);
+    if b.fits {
+        return b;
+    }
+    let c = word(s, i, b" CHEMICALLY TREATED", b'L' as u32);
+    if c.fits {
+        return c;
+    }
+    let d = word(s, i, b" SNOWBANK", b'M' as u32);
+    if d.fits {
+        return d;
+    }
+    word(s, i, b" ADJ SNOWBANK", b'O' as u32)
+}
+
+// What is said of taxiways.
+pub fn taxi_saying(s: &[u8], i: usize) -> Found
+    ensures { λ r. ⌜ Held (now (s .entry)) (readName taxiSaying taxiSayings (drop i (now (s .entry)))) r ⌝ }
+{
+    let a = word(s, i, b" SNOWBANK", b'N' as u32);
+    if a.fits {
+        return a;
+    }
+    word(s, i, b" POOR", b'P' as u32)
+}
+
+// LR is tried before L.
+fn edge(s: &[u8], i: usize) -> Found
+    ensures { λ r. ⌜ Held (now (s .entry)) (readName edgeName edges (drop i (now (s .entry)))) r ⌝ }
+{
+    let a = word(s, i, b"LR", 3);
+    if a.fits {
+        return a;
+    }
+    let b = word(s, i, b"L", 1);
+    if b.fits {
+        return b;
+    }
+    word(s, i, b"R", 2)
+}
+
+// Three digits, or four from 1000 on.
+fn number(s: &[u8], i: usize) -> Found
+    ensures { λ r. ⌜ Held (now (s .entry)) (readNumber 3 (drop i (now (s .entry)))) r ⌝ }
+{
+    let three = digits(s, i, 3);
+    let four = digits(s, i, 4);
+    if four.fits {
+        if 1000 <= four.value {
+            return four;
+        }
+    }
+    three
+}
+
+fn length_detail(s: &[u8], i: usize) -> DetailFound
+    ensures { λ r. ⌜ Reads (now (s .entry)) (readLength (drop i (now (s .entry)))) (r .fits) (r .edge, r .amount) (r .next) ⌝ }
+{
+    let g = word(s, i, b" ", 0);
+    if !g.fits {
+        return NO_DETAIL;
+    }
+    let n = number(s, g.next);
+    if !n.fits {
+        return NO_DETAIL;
+    }
+    DetailFound {
+        fits: true,
+        edge: 0,
+        amount: n.value as u16,
+        next: n.next,
+    }
+}
+
+fn bank_detail(s: &[u8], i: usize) -> DetailFound
+    ensures { λ r. ⌜ Reads (now (s .entry)) (readBank (drop i (now (s .entry)))) (r .fits) (r .edge, r .amount) (r .next) ⌝ }
+{
+    let g = word(s, i, b" ", 0);
+    if !g.fits {
+        return NO_DETAIL;
+    }
+    let e = edge(s, g.next);
+    if !e.fits {
+        return NO_DETAIL;
+    }
+    let n = digits(s, e.next, 2);
+    if !n.fits {
+        return NO_DETAIL;
+    }
+    let w = word(s, n.next, b" FM CL", 0);
+    if !w.fits {
+        return NO_DETAIL;
+    }
+    DetailFound {
+        fits: true,
+        edge: e.value as u8,
+        amount: n.value as u16,
+        next: w.next,
+    }
+}
+
+fn detail(letter: u32, s: &[u8], i: usize) -> DetailFound
+    requires { ⌜ i ≤ length (now s) ⌝ }
+    ensures { λ r. ⌜ Reads (now (s .entry)) (readDetail letter (drop i (now (s .entry)))) (r .fits) (r .edge, r .amount) (r .next) ⌝ }
+{
+    if letter == b'I' as u32 {
+        return length_detail(s, i);
+    }
+    if letter == b'M' as u32 {
+        return bank_detail(s, i);
+    }
+    DetailFound {
+        fits: true,
+        edge: 0,
+        amount: 0,
+        next: i,
+    }
+}
+
+fn no_item() -> ItemFound
+    ensures { λ r. ⌜ r ≡ noItem ⌝ }
+{
+    ItemFound {
+        fits: false,
+        item: blank_item(),
+        next: 0,
+    }
+}
+
+fn runway_item(letter: u8, number: u8, side: u8, edge: u8, amount: u16) -> Item
+    ensures { λ r. ⌜ r ≡ runwayItem ((number, side), (letter, (edge, amount))) ⌝ }
+{
+    let mut i = blank_item();
+    i.letter = letter;
+    i.number = number;
+    i.side = side;
+    i.edge = edge;
+    i.amount = amount;
+    i
+}
+
+// The item behind RWY, without its full stop.
+pub fn read_runway_item(s: &[u8], i: usize) -> ItemFound
+    ensures { λ r. ⌜ HeldItem (now (s .entry)) (readRunwayForm (drop i (now (s .entry)))) r ⌝ }
+{
+    let g = word(s, i, b" ", 0);
+    if !g.fits {
+        return no_item();
+    }
+    let w = read_runway(s, g.next);
+    if !w.fits {
+        return no_item();
+    }
+    let y = saying(s, w.next);
+    if !y.fits {
+        return no_item();
+    }
+    let d = detail(y.value, s, y.next);
+    if !d.fits {
+        return no_item();
+    }
+    ItemFound {
+        fits: true,
+        item: runway_item(y.value as u8, w.number, w.side, d.edge, d.amount),
+        next: d.next,
+    }
+}
+
+// ---- Writing an item
+
+// 1 L, 2 R, 3 LR.
+fn put_edge(out: &mut [u8], at: usize, edge: u8) -> usize
+    ensures { λ r. ⌜ Put at (canonical (spell (edgeName edge))) (now (out .entry)) (now (out .exit)) r ⌝ }
+{
+    match edge {
+        1 => put(out, at, b"L"),
+        2 => put(out, at, b"R"),
+        3 => put(out, at, b"LR"),
+        _ => put(out, at, b""),
+    }
+}
+
+// Three digits, or four from 1000 on.
+fn put_number(out: &mut [u8], at: usize, x: u16) -> usize
+    ensures { λ r. ⌜ Put at (canonical (number 3 x)) (now (out .entry)) (now (out .exit)) r ⌝ }
+{
+    if 1000 <= x {
+        return put_digits(out, at, 4, x as u32);
+    }
+    put_digits(out, at, 3, x as u32)
+}
+
+// The runway of an item, and what is said of it.
+fn put_of_runway(out: &mut [u8], at: usize, i: Item, said: &[u8]) -> usize
+    ensures { λ r. ⌜ Put at (canonical (ofRunway i (now (said .entry)))) (now (out .entry)) (now (out .exit)) r ⌝ }
+{
+    let at = put(out, at, b"RWY ");
+    let at = put_runway(out, at, i.number, i.side);
+    put(out, at, said)
+}
+
+// Item I.
+fn put_length(out: &mut [u8], at: usize, i: Item) -> usize
+    ensures { λ r. ⌜ Put at (canonical (lengthText i)) (now (out .entry)) (now (out .exit)) r ⌝ }
+{
+    let at = put_of_runway(out, at, i, b" REDUCED TO ");
+    put_number(out, at, i.amount)
+}
+
+// Item M.
+fn put_bank(out: &mut [u8], at: usize, i: Item) -> usize
+    ensures { λ r. ⌜ Put at (canonical (bankText i)) (now (out .entry)) (now (out .exit)) r ⌝ }
+{
+    let at = put_of_runway(out, at, i, b" SNOWBANK ");
+    let at = put_edge(out, at, i.edge);
+    let at = put_digits(out, at, 2, i.amount as u32);
+    put(out, at, b" FM CL")
+}
+
+// How many bytes the slot at the front of `t` has: three, or all that are left.
+fn slot_end(t: &[u8]) -> usize
+    ensures { λ r. ⌜ FrontSlot (now (t .entry)) r ⌝ }
+{
+    if t.len() < TAXIWAY_SIZE {
+        return t.len();
+    }
+    TAXIWAY_SIZE
+}
+
+// The name at the front of `f`.
+fn put_name(out: &mut [u8], at: usize, f: &[u8]) -> usize
+    ensures { λ r. ⌜ Put at (nameAtFront (now (f .entry))) (now (out .entry)) (now (out .exit)) r ⌝ }
+{
+    let n = run(f, 0, CAPITALS_AND_DIGITS);
+    put(out, at, &f[..n])
+}
+
+// The names in the first `n` slots of `t`, a space before each.
+fn put_taxiways(out: &mut [u8], at: usize, t: &[u8], n: u8) -> usize
+    ensures { λ r. ⌜ Put at (canonical (taxiwayNames n (now (t .entry)))) (now (out .entry)) (now (out .exit)) r ⌝ }
+{
+    if n == 0 {
+        return put(out, at, b"");
+    }
+    let end = slot_end(t);
+    let at = put(out, at, b" ");
+    let at = put_name(out, at, &t[..end]);
+    put_taxiways(out, at, &t[end..], n - 1)
+}
+
+// The taxiways of an item, and what is said of them.
+fn put_of_taxiways(out: &mut [u8], at: usize, i: Item, said: &[u8]) -> usize
+    ensures { λ r. ⌜ Put at (canonical (ofTaxiways i (now (said .entry)))) (now (out .entry)) (now (out .exit)) r ⌝ }
+{
+    let t = i.taxiways;
+    let at = put(out, at, b"TWY");
+    let at = put_taxiways(out, at, &t, i.count);
+    put(out, at, said)
+}
+
+// Item P.
+fn put_poor_taxiways(out: &mut [u8], at: usize, i: Item) -> usize
+    ensures { λ r. ⌜ Put at (canonical (poorTaxiways i)) (now (out .entry)) (now (out .exit)) r ⌝ }
+{
+    if i.count == 0 {
+        return put(out, at, b"ALL TWY POOR");
+    }
+    put_of_taxiways(out, at, i, b" POOR")
+}
+
+// Item R.
+fn put_poor_apron(out: &mut [u8], at: usize, i: Item) -> usize
+    ensures { λ r. ⌜ Put at (canonical (poorApron i)) (now (out .entry)) (now (out .exit)) r ⌝ }
+{
+    let name = i.name;
+    let n = run(&name, 0, CAPITALS_AND_DIGITS);
+    if n == 0 {
+        return put(out, at, b"ALL APRON POOR");
+    }
+    let at = put(out, at, b"APRON ");
+    let at = put_name(out, at, &name);
+    put(out, at, b" POOR")
+}
+
+// An item without its full stop.
+fn put_text(out: &mut [u8], at: usize, i: Item) -> usize
+    ensures { λ r. ⌜ Put at (canonical (itemText i)) (now (out .entry)) (now (out .exit)) r ⌝ }
+{
+    let letter = i.letter;
+    match letter {
+        b'I' => put_length(out, at, i),
+        b'J' => put(out, at, b"DRIFTING SNOW"),
+        b'K' => put_of_runway(out, at, i, b" LOOSE SAND"),
+        b'L' => put_of_runway(out, at, i, b" CHEMICALLY TREATED"),
+        b'M' => put_bank(out, at, i),
+        b'N' => put_of_taxiways(out, at, i, b" SNOWBANK"),
+        b'O' => put_of_runway(out, at, i, b" ADJ SNOWBANK"),
+        b'P' => put_poor_taxiways(out, at, i),
+        _ => put_poor_apron(out, at, i),
+    }
+}
+
+// An item, ended by a full stop.
+pub fn put_item(out: &mut [u8], at: usize, item: Item) -> usize
+    ensures { λ r. ⌜ Put at (canonical (itemPieces item)) (now (out .entry)) (now (out .exit)) r ⌝ }
+{
+    let at = put_text(out, at, item);
+    put(out, at, b".")
+}
