@@ -1,2 +1,3 @@
--- What the promises cite.
+-- What the promises cite; what is proved of it is under Laws.
 pub mod Held
+pub mod Laws

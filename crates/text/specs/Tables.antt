@@ -10,7 +10,7 @@ use Rattle.text.specs.Numbers.{isDigit, readDigits, digits, number, read
 use Rattle.text.specs.Names.{isLetter, isName, isMark, isPlainByte, inClass, readCount, run, past, readName, nameAt}
 use Rattle.text.specs.Lines.{lines, endSize, lineSize, lineStep, closed, front, opened, ended}
 use Rattle.text.specs.Put.{told, farthest}
-use Rattle.text.specs.Arrays.{pad, slots, pastSlots, flat, nameIn, pastName}
+use Rattle.text.specs.Arrays.{pad, slots, pastSlots, flat}
 
 -- the bytes below n that are of a class, from the highest down
 unfoldable pub classBelow : ℕ → (ℕ → Bool) → List ℕ
@@ -107,9 +107,8 @@ pub record Held : Type 0 where
   pub padded : pad {A = ℕ} 4 0 (7 ∷ 8 ∷ []) ≡ 7 ∷ 8 ∷ 0 ∷ 0 ∷ []
   pub slotted : (slots 2 2 (1 ∷ 2 ∷ 3 ∷ 4 ∷ 5 ∷ []) ≡ (1 ∷ 2 ∷ []) ∷ (3 ∷ 4 ∷ []) ∷ []) × (pastSlots 2 2 (1 ∷ 2 ∷ 3 ∷ 4 ∷ 5 ∷ []) ≡ 5 ∷ [])
   pub flattened : flat ((1 ∷ 2 ∷ []) ∷ (3 ∷ []) ∷ []) ≡ 1 ∷ 2 ∷ 3 ∷ []
-  pub named : (nameIn (65 ∷ 0 ∷ 66 ∷ []) ≡ 65 ∷ []) × (pastName (65 ∷ 0 ∷ 66 ∷ []) ≡ 0 ∷ 66 ∷ [])
   pub far : (told (7 ∷ []) 65537 ≡ 65537) × (told (7 ∷ []) 65538 ≡ 65537) × (farthest [] ≡ 65536)
 
 pub held : Held
-unfolding slots pastSlots flat run past told
-held = record { padded = refl; slotted = (refl, refl); flattened = refl; named = (refl, refl); far = (refl, refl, refl) }
+unfolding slots pastSlots flat told
+held = record { padded = refl; slotted = (refl, refl); flattened = refl; far = (refl, refl, refl) }
