@@ -2,16 +2,17 @@
 use Prim.Native.Nat.{ℕ, _≤_}
 use mathlib.Core.Path.{_≡_}
 use mathlib.Core.List.{List, map}
-use mathlib.Core.Bool.{Bool, false}
-use lib.ListN.{length, take, drop}
+use mathlib.Core.Bool.{Bool, true, false}
+use lib.ListN.{length, take, drop, replicate}
 use Rattle.text.specs.Choice.{pick}
 use Rattle.text.specs.Read.{Got, misfit, got}
 use Rattle.text.specs.Piece.{Piece, space, verbatim, layAll, _then_}
-use Rattle.text.specs.Arrays.{slots}
+use Rattle.text.specs.Arrays.{pad, slots}
 use Rattle.items.specs.Item.{taxiwaySize, nameAtFront}
-use Rattle.items.specs.Awareness.{blankItem}
+use Rattle.items.specs.Awareness.{mostItems, blankItem}
 use Rattle.items.specs.declared.Item.{Item}
 use Rattle.awareness.specs.declared.ItemFound.{ItemFound}
+use Rattle.awareness.specs.declared.ItemsRead.{ItemsRead}
 
 -- an answer is the reading g of a part of m: whether it fits, what was read, and the place behind it
 pub record Reads {A : Type 0} (m : List ℕ) (g : Got A) (fits : Bool) (v : A) (next : ℕ) : Type 0 where
@@ -36,3 +37,8 @@ pub record FrontSlot (f : List ℕ) (r : ℕ) : Type 0 where
 -- the names in the first n slots of an array, a space before each
 abbrev pub taxiwayNames : ℕ → List ℕ → List Piece
 taxiwayNames n f = layAll (λ w. space then verbatim w) (map nameAtFront (slots taxiwaySize n f))
+
+-- a reading of the awareness line as the code answers it: zeros past the count, and a misfit is all zero
+abbrev pub itemsAnswer : Got (List Item) → ItemsRead
+itemsAnswer misfit = record { fits = false; count = 0; items = replicate mostItems blankItem }
+itemsAnswer (got is r) = record { fits = true; count = length is; items = pad mostItems blankItem is }

@@ -31,6 +31,13 @@ pub struct ItemFound {
     pub next: usize,
 }
 
+// The items of an awareness line, zeros behind them; none where the line does not fit.
+pub struct ItemsRead {
+    pub fits: bool,
+    pub count: u8,
+    pub items: [Item; 32],
+}
+
 // What a runway's item says besides its letter.
 struct DetailFound {
     fits: bool,

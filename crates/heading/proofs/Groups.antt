@@ -1,19 +1,18 @@
 -- Groups of letters at a place of a line.
-use Prim.Native.Nat.{ℕ, zero, suc, _+_, _*_, _-_, _<_, _≤_}
+use Prim.Native.Nat.{ℕ, zero, suc, _+_, _*_, _-_, _≤_}
 use mathlib.Core.Path.{_≡_, refl, sym, _∙_, ap}
 use mathlib.Core.List.{List, [], _∷_}
 use mathlib.Core.Bool.{Bool, true, false}
-use native.Mathlib.Numerals.{add-one}
 use native.Mathlib.Omega.{arith}
 use native.Mathlib.Nat.{suc-mul}
 use lib.Dec.{eqb, eqb·zero-suc, eqb·suc-suc}
-use lib.ListN.{length, take, drop, getD, length-drop, drop-of-length-le}
+use lib.ListN.{length, take, drop, length-drop, drop-of-length-le}
 use lib.Seq.{drop-cons, drop-drop, take-all}
-use borrow.Author.Tests.{eqb-true, eqb-false, ne-eqb}
+use borrow.Author.Tests.{eqb-true, eqb-false}
 use Rattle.text.specs.Choice.{pick, _and_, all}
 use Rattle.text.specs.Read.{Got, misfit, got, guard, andThen, orElse, readGap, whole}
 use Rattle.text.specs.Names.{isLetter, inClass, readCount}
-use Rattle.text.specs.Arrays.{isZero, slots, pastSlots}
+use Rattle.text.specs.Arrays.{slots, pastSlots}
 use Rattle.text.specs.Held.{Held, fits, readWord}
 use Rattle.text.specs.declared.Found.{Found}
 use Rattle.text.specs.Laws.Base.{true-false}
@@ -159,16 +158,3 @@ module _ (s : List ℕ) (at n : ℕ) (r : Span) (h : Spanned (take (length s - a
 pub else-none : {A : Type 0} (g : Got A) → orElse g misfit ≡ g
 else-none misfit = refl
 else-none (got a r) = refl
-
--- zeros up to an array's end
-module _ (m : List ℕ) (j : ℕ) where
-  pub zeros-end : length m ≤ j → all isZero (drop j m) ≡ true
-  zeros-end h = rw (drop-of-length-le m h)
-
-  pub zeros-off : j < length m → (getD m j 0 ≡ 0 → ⊥) → all isZero (drop j m) ≡ false
-  unfolding _and_
-  zeros-off h n = rw (drop-cons m j 0 h, ne-eqb (getD m j 0) 0 n)
-
-  pub zeros-on : j < length m → getD m j 0 ≡ 0 → all isZero (drop j m) ≡ all isZero (drop (j + 1) m)
-  unfolding _and_
-  zeros-on h e = rw (add-one, drop-cons m j 0 h, e)

@@ -26,6 +26,7 @@ use text::digits;
 use text::put;
 use text::put_digits;
 use text::word;
+use text::zeros_from;
 
 // Line 1. Zeros stand past the last address.
 pub struct Addresses {
@@ -421,20 +422,6 @@ pub fn read_aerodrome(line: &[u8]) -> AerodromeRead
             aerodrome: [0u8; 4],
         }
     }
-}
-
-// Whether only zeros stand from `i` on.
-fn zeros_from(s: &[u8], i: usize) -> bool
-    ensures { λ r. ⌜ r ≡ all isZero (drop i (now (s .entry))) ⌝ }
-{
-    let mut j = i;
-    while j < s.len() {
-        if s[j] != 0 {
-            return false;
-        }
-        j += 1;
-    }
-    true
 }
 
 // Whether so many addresses of letters stand in the array, and zeros past them.

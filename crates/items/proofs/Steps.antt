@@ -1,57 +1,24 @@
 -- One step of each loop.
-use Prim.Native.Nat.{ℕ, zero, suc, _+_, _-_, _<_, _≤_}
+use Prim.Native.Nat.{ℕ, suc, _+_, _-_, _<_, _≤_}
 use mathlib.Core.Path.{_≡_, refl, sym, _∙_, ap}
 use mathlib.Core.List.{List, [], _∷_, _++_}
 use mathlib.Core.Bool.{Bool, true, false}
 use native.Mathlib.Numerals.{add-one}
 use native.Mathlib.Omega.{arith}
-use lib.Dec.{eqb, leb}
 use lib.ListN.{length, drop, getD, take, drop-of-length-le, length-drop, length-take, take-append-drop}
 use lib.Seq.{drop-cons, getD-take, drop-drop, drop-length, take-all, take-take, take-suc}
-use borrow.Author.Tests.{eq-eqb, ne-eqb, le-leb, lt-leb}
-use Rattle.text.specs.Choice.{pick, _and_, all, headIs}
-use Rattle.text.specs.Read.{Got, misfit, got}
+use Rattle.text.specs.Choice.{_and_, all, headIs, sameBytes}
+use Rattle.text.specs.Read.{got}
 use Rattle.text.specs.Names.{readCount}
 use Rattle.text.specs.Held.{fits}
 use Rattle.text.specs.Arrays.{slots, isZero}
+use Rattle.text.specs.Laws.Arrays.{all-end, all-on, all-off}
 use Rattle.text.specs.Laws.Held.{part-all}
-use Rattle.items.specs.Item.{sameBytes, validSlot, isNew, slotsFit, validItem}
+use Rattle.items.specs.Item.{validSlot, isNew, slotsFit, validItem}
 use Rattle.items.specs.Awareness.{inOrder, standsBehind, soundItems}
 use Rattle.items.specs.Laws.Order.{sound-on, sound-invalid, sound-misplaced}
 use Rattle.items.specs.Held.{SlotEnd}
 use Rattle.items.specs.declared.Item.{Item}
-
--- a test of all that is left from a place on
-module _ {A : Type 0} (p : A → Bool) (z : A) (l : List A) (j : ℕ) where
-  pub all-end : length l ≤ j → all p (drop j l) ≡ true
-  all-end h = rw (drop-of-length-le l h)
-
-  pub all-on : j < length l → p (getD l j z) ≡ true → all p (drop j l) ≡ all p (drop (j + 1) l)
-  unfolding _and_
-  all-on h e = rw (add-one, drop-cons l j z h, e)
-
-  pub all-off : j < length l → p (getD l j z) ≡ false → all p (drop j l) ≡ false
-  unfolding _and_
-  all-off h e = rw (drop-cons l j z h, e)
-
-module _ (a b : List ℕ) (i : ℕ) where
-  pub same-end : length a ≤ i → i ≤ length b → sameBytes (drop i a) (drop i b) ≡ leb (length b) i
-  same-end h k = rw (drop-of-length-le a h) (go (drop i b) (length-drop i b))
-    where
-      go : (c : List ℕ) → length c ≡ length b - i → sameBytes [] c ≡ leb (length b) i
-      go [] e = sym (le-leb (length b) i (omega arith))
-      go (x ∷ c) e = sym (lt-leb (length b) i (omega arith))
-
-  pub same-short : i < length a → length b ≤ i → sameBytes (drop i a) (drop i b) ≡ false
-  same-short h k = rw (drop-cons a i 0 h, drop-of-length-le b k)
-
-  pub same-off : i < length a → i < length b → (getD a i 0 ≡ getD b i 0 → ⊥) → sameBytes (drop i a) (drop i b) ≡ false
-  unfolding _and_
-  same-off h k e = rw (drop-cons a i 0 h, drop-cons b i 0 k, ne-eqb (getD a i 0) (getD b i 0) e)
-
-  pub same-on : i < length a → i < length b → getD a i 0 ≡ getD b i 0 → sameBytes (drop i a) (drop i b) ≡ sameBytes (drop (i + 1) a) (drop (i + 1) b)
-  unfolding _and_
-  same-on h k e = rw (add-one i, drop-cons a i 0 h, drop-cons b i 0 k, e, eq-eqb (getD b i 0) (getD b i 0) refl)
 
 -- one byte of a class
 pub one-counted : (p : ℕ → Bool) (m : List ℕ) → fits (readCount p 1 m) ≡ headIs p m

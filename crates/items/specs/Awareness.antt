@@ -4,12 +4,12 @@ use mathlib.Core.List.{List, [], _∷_}
 use mathlib.Core.Bool.{Bool, true, false, not}
 use lib.Dec.{eqb, leb, ltb}
 use lib.ListN.{length, take, drop}
-use Rattle.text.specs.Choice.{pick, _and_, all}
+use Rattle.text.specs.Choice.{pick, _and_, all, sameBytes}
 use Rattle.text.specs.Piece.{Piece, loose, layAll, _then_}
 use Rattle.text.specs.Read.{Got, got, whole, readSeq, readAs, readIf, readLoose, readMany}
 use Rattle.text.specs.Arrays.{isZero}
 use Rattle.items.specs.declared.Item.{Item}
-use Rattle.items.specs.Item.{letterR, onRunway, sameBytes, validItem, taxiwayBytes, apronSize}
+use Rattle.items.specs.Item.{letterR, onRunway, validItem, taxiwayBytes, apronSize}
 use Rattle.items.specs.ItemText.{isNamed, itemPieces}
 use Rattle.items.specs.ReadItem.{readItem, bareItem}
 

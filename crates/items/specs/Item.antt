@@ -1,10 +1,10 @@
 -- An awareness item: what each of its fields may hold, by the item's letter (document 01, "Awareness items").
 use Prim.Native.Nat.{ℕ, zero, suc}
 use mathlib.Core.List.{List, [], _∷_}
-use mathlib.Core.Bool.{Bool, true, false, not}
+use mathlib.Core.Bool.{Bool, true, not}
 use lib.Dec.{eqb, leb}
 use lib.ListN.{length, take, drop}
-use Rattle.text.specs.Choice.{pick, _and_, all, member, headIs}
+use Rattle.text.specs.Choice.{pick, _and_, all, member, headIs, sameBytes}
 use Rattle.text.specs.Piece.{bytes}
 use Rattle.text.specs.Names.{isLetter, isName, run, past}
 use Rattle.text.specs.Arrays.{isZero, slots}
@@ -99,12 +99,6 @@ isTaxiway w = headIs isLetter w and all isName w and leb (length w) taxiwaySize
 -- a taxiway in its three bytes, zeros behind it
 unfoldable pub validSlot : List ℕ → Bool
 validSlot s = eqb (length s) taxiwaySize and headIs isLetter s and all isZero (behindName s)
-
-abbrev pub sameBytes : List ℕ → List ℕ → Bool
-sameBytes [] [] = true
-sameBytes [] (b ∷ bs) = false
-sameBytes (a ∷ as′) [] = false
-sameBytes (a ∷ as′) (b ∷ bs) = eqb a b and sameBytes as′ bs
 
 -- w is none of these
 unfoldable pub isNew : List ℕ → List (List ℕ) → Bool

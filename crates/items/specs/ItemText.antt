@@ -1,6 +1,5 @@
 -- The texts of the items: the table of document 01, "Awareness items".
 use Prim.Native.Nat.{ℕ}
-use Prim.Native.String.{String}
 use mathlib.Core.List.{List, [], _∷_, map}
 use mathlib.Core.Bool.{Bool}
 use lib.Dec.{eqb}

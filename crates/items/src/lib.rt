@@ -1,16 +1,14 @@
 // Awareness items and plain language: what a record may hold of them.
 
 ghost use mathlib.Core.Path.{_≡_};
-ghost use mathlib.Core.List.{[], _∷_};
 ghost use Prim.Native.Nat.{_+_, _≤_};
-ghost use lib.Dec.{eqb};
 ghost use lib.ListN.{length, take, drop};
-ghost use Rattle.text.specs.Choice.{pick, all, member, headIs};
+ghost use Rattle.text.specs.Choice.{all, member, headIs};
 ghost use Rattle.text.specs.Names.{isName};
 ghost use Rattle.text.specs.Piece.{canonical, verbatim};
 ghost use Rattle.text.specs.Put.{Put};
-ghost use Rattle.text.specs.Arrays.{isZero, slots};
-ghost use Rattle.items.specs.Item.{letters, onRunway, highestRunway, isBetween, runwayFits, amountFits, edgeFits, countFits, sameBytes, validSlot, isNew, slotsFit, taxiwaysFit, nameFits, numbersFit, validItem};
+ghost use Rattle.text.specs.Arrays.{slots};
+ghost use Rattle.items.specs.Item.{letters, onRunway, highestRunway, isBetween, runwayFits, amountFits, edgeFits, countFits, validSlot, isNew, slotsFit, taxiwaysFit, nameFits, numbersFit, validItem};
 ghost use Rattle.items.specs.Awareness.{sameRunway, otherApron, mayRepeat, mayFollow, standsBehind, soundItems, isBlank, noNumbers, blankItem, isBlankItem, validItemArray};
 ghost use Rattle.items.specs.Language.{validLanguage, wholeLanguage, validLanguageArray};
 ghost use Rattle.items.specs.Held.{SlotEnd, languageAnswer};
@@ -21,6 +19,8 @@ use text::PLAIN_LANGUAGE;
 use text::counted;
 use text::put;
 use text::run;
+use text::same_bytes;
+use text::zeros_from;
 
 // An awareness item, zeros in every field that its letter does not use.
 pub struct Item {
@@ -59,38 +59,6 @@ const APRON_SIZE: usize = 16;
 const MOST_ITEMS: u8 = 32;
 
 const MOST_LANGUAGE: usize = 400;
-
-// ---- Bytes
-
-// Whether only zeros stand from `i` on.
-fn zeros_from(s: &[u8], i: usize) -> bool
-    ensures { λ r. ⌜ r ≡ all isZero (drop i (now (s .entry))) ⌝ }
-{
-    let mut j = i;
-    while j < s.len() {
-        if s[j] != 0 {
-            return false;
-        }
-        j += 1;
-    }
-    true
-}
-
-fn same_bytes(a: &[u8], b: &[u8]) -> bool
-    ensures { λ r. ⌜ r ≡ sameBytes (now (a .entry)) (now (b .entry)) ⌝ }
-{
-    let mut i = 0;
-    while i < a.len() {
-        if b.len() <= i {
-            return false;
-        }
-        if a[i] != b[i] {
-            return false;
-        }
-        i += 1;
-    }
-    b.len() <= i
-}
 
 // ---- What an item may hold
 

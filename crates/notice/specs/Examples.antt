@@ -3,8 +3,8 @@ use Prim.Native.Nat.{ℕ}
 use Prim.Native.String.{String}
 use mathlib.Core.Path.{_≡_, refl}
 use mathlib.Core.List.{List, [], _∷_, _++_, map}
-use Rattle.text.specs.Arrays.{slots, flat}
 use Rattle.text.specs.Choice.{_and_}
+use Rattle.text.specs.Arrays.{slots, flat}
 use Rattle.text.specs.Lines.{lines, closed, front, ended}
 use Rattle.text.specs.Names.{isMark, readCount, run, past, readName}
 use Rattle.text.specs.Numbers.{readDigits, digits}

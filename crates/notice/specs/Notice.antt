@@ -1,6 +1,6 @@
 -- The notice of a record: document 01, "The notice, line by line".
 use Prim.Native.Nat.{ℕ}
-use mathlib.Core.List.{List, [], _∷_, _++_, map}
+use mathlib.Core.List.{List, _∷_, _++_, map}
 use Rattle.text.specs.Piece.{Piece, canonical}
 use Rattle.text.specs.Lines.{ended}
 use Rattle.row.specs.Row.{rowPieces}

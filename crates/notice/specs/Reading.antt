@@ -1,13 +1,11 @@
 -- Reading a message: "1 first, then line by line, where the first line that doesn't fit decides; 10, 11, 12 in that order at the end".
 use Prim.Native.Nat.{ℕ}
 use mathlib.Core.List.{List, []}
-use mathlib.Core.Bool.{Bool}
 use lib.Dec.{eqb, leb}
 use lib.ListN.{length}
-use Rattle.text.specs.Choice.{pick}
+use Rattle.text.specs.Choice.{pick, sameBytes}
 use Rattle.text.specs.Lines.{lines}
 use Rattle.row.specs.declared.Row.{Row}
-use Rattle.items.specs.Item.{sameBytes}
 use Rattle.heading.specs.Addresses.{readAddresses}
 use Rattle.heading.specs.Filing.{readFiling}
 use Rattle.heading.specs.Heading.{Heading, readHeading, readSerialLine, readAerodrome}

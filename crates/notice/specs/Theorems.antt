@@ -16,7 +16,6 @@ use Rattle.text.specs.Laws.Typing.{canonical-typed}
 use Rattle.text.specs.Laws.Lines.{lines-sound, lines-complete}
 use Rattle.body.specs.Out.{Out, refuse, taken}
 use Rattle.notice.specs.declared.Record.{Record}
-use Rattle.notice.specs.declared.Reading.{Reading}
 use Rattle.notice.specs.declared.Written.{Written}
 use Rattle.notice.specs.Record.{validRecord, blankRecord}
 use Rattle.notice.specs.Notice.{noticeLines, notice, noticeText}

@@ -1,7 +1,7 @@
 -- Writing a record: "13, 14: record invalid; buffer shorter than the text", and when two messages tell the same.
 use Prim.Native.Nat.{ℕ}
 use mathlib.Core.Path.{_≡_}
-use mathlib.Core.List.{List, [], _++_}
+use mathlib.Core.List.{List, _++_}
 use lib.Dec.{leb}
 use lib.ListN.{length, drop}
 use Rattle.text.specs.Choice.{pick}

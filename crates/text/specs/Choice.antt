@@ -34,3 +34,13 @@ headIs p (x ∷ m) = p x
 abbrev pub member : List ℕ → ℕ → Bool
 member [] a = false
 member (b ∷ bs) a = pick (eqb b a) true (member bs a)
+
+-- two lists are the same one by one, by a test
+abbrev pub sameAll : {A : Type 0} → (A → A → Bool) → List A → List A → Bool
+sameAll p [] [] = true
+sameAll p [] (b ∷ bs) = false
+sameAll p (a ∷ as′) [] = false
+sameAll p (a ∷ as′) (b ∷ bs) = p a b and sameAll p as′ bs
+
+abbrev pub sameBytes : List ℕ → List ℕ → Bool
+sameBytes = sameAll eqb

@@ -5,7 +5,8 @@ use mathlib.Core.Path.{_≡_, refl, sym, _∙_}
 use lib.ListN.{drop}
 use Rattle.text.specs.Choice.{all}
 use Rattle.items.specs.Awareness.{isBlankItem}
-use Rattle.items.proofs.Steps.{all-end, all-on, all-off, outside}
+use Rattle.text.specs.Laws.Arrays.{all-end, all-on, all-off}
+use Rattle.items.proofs.Steps.{outside}
 use Rattle.items.proofs.blank_rest.Statement.{statement}
 use Rattle.items.proofs.blank_rest.Tie as tie
 

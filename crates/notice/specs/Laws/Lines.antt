@@ -1,11 +1,11 @@
 -- Lines are read as good parts exactly if they are told by the parts' lines.
-use Prim.Native.Nat.{ℕ, _≤_}
+use Prim.Native.Nat.{ℕ}
 use mathlib.Core.Path.{_≡_, refl, sym, subst, _∙_, ap}
 use mathlib.Core.List.{List, [], _∷_, _++_, map}
 use mathlib.Core.Bool.{Bool, true, false}
 use lib.Dec.{eqb, lit<, lit≤}
 use borrow.Author.Tests.{eqb-true, eq-eqb}
-use Rattle.text.specs.Choice.{pick, _and_, all, isEmpty}
+use Rattle.text.specs.Choice.{pick, _and_, all, isEmpty, sameBytes}
 use Rattle.text.specs.Piece.{Piece, Typed, Typing}
 use Rattle.text.specs.Read.{Got, got, whole}
 use Rattle.text.specs.Laws.Base.{true-false, inline, and-1, and-2, and-i}
@@ -14,7 +14,7 @@ use Rattle.row.specs.declared.Row.{Row}
 use Rattle.row.specs.Row.{validRow, rowPieces}
 use Rattle.row.specs.Laws.Row.{row-laws}
 use Rattle.items.specs.declared.Item.{Item}
-use Rattle.items.specs.Item.{sameBytes}
+use Rattle.text.specs.Laws.Same.{same-true, same-refl}
 use Rattle.items.specs.Awareness.{validItems, awarenessPieces}
 use Rattle.items.specs.Laws.Awareness.{awareness-laws}
 use Rattle.items.specs.Laws.Language.{language-laws}
@@ -34,17 +34,6 @@ use Rattle.notice.specs.declared.Record.{Record}
 use Rattle.notice.specs.Record.{makeRecord}
 use Rattle.notice.specs.Reading.{agreeing, readNotice}
 use Rattle.notice.specs.Laws.Parts.{Parts, made, partLines, Good, title-valid}
-
--- bytes alike
-pub same-true : (a b : List ℕ) → sameBytes a b ≡ true → a ≡ b
-same-true [] [] h = refl
-same-true [] (y ∷ b) h = true-false (sym h)
-same-true (x ∷ a) [] h = true-false (sym h)
-same-true (x ∷ a) (y ∷ b) h = λ i. eqb-true x y (and-1 _ _ h) i ∷ same-true a b (and-2 _ _ h) i
-
-pub same-refl : (a : List ℕ) → sameBytes a a ≡ true
-same-refl [] = refl
-same-refl (x ∷ a) = and-i (eq-eqb x x refl) (same-refl a)
 
 -- inversion of a line, and of the agreement at the end
 record Line {A B : Type 0} (f : List ℕ → Got A) (ls : List (List ℕ)) (k : A → List (List ℕ) → Out B) (b : B) : Type 0 where

@@ -1,8 +1,7 @@
 -- A record is valid exactly if it is made of good parts.
-use mathlib.Core.Path.{_≡_, refl, sym, subst, _∙_, ap}
-use mathlib.Core.List.{List, [], _∷_, _++_, map}
+use mathlib.Core.Path.{_≡_, refl, sym, _∙_, ap}
+use mathlib.Core.List.{List, _∷_, _++_, map}
 use mathlib.Core.Bool.{true}
-use Rattle.text.specs.Choice.{_and_}
 use Rattle.text.specs.Piece.{Piece}
 use Rattle.text.specs.Laws.Base.{and-1, and-2, and-i}
 use Rattle.row.specs.declared.Row.{Row}

@@ -1,6 +1,6 @@
 -- What an accepted reading says of the lines.
-use Prim.Native.Nat.{ℕ, _≤_}
-use mathlib.Core.Path.{_≡_, refl, ap}
+use Prim.Native.Nat.{_≤_}
+use mathlib.Core.Path.{_≡_, ap}
 use native.Mathlib.Omega.{arith}
 use Rattle.body.specs.Out.{Out, refuse, taken}
 use Rattle.body.specs.Laws.Out.{Numbered}

@@ -1,18 +1,15 @@
 -- Every valid record's text has at most 4,096 bytes.
-use Prim.Native.Nat.{ℕ, suc, _≤_}
+use Prim.Native.Nat.{suc, _≤_}
 use mathlib.Core.Path.{_≡_, ap}
-use mathlib.Core.List.{List, map}
 use mathlib.Core.Bool.{true}
 use lib.ListN.{length}
 use native.Mathlib.Omega.{arith}
 use Rattle.text.specs.Laws.Base.{and-2}
 use Rattle.text.specs.Laws.Sizes.{size, total, total-append, ended-size}
-use Rattle.row.specs.Row.{rowPieces}
 use Rattle.heading.specs.Heading.{validTitle}
 use Rattle.heading.specs.Laws.Addresses.{addresses-size}
 use Rattle.heading.specs.Laws.Filing.{filing-size}
 use Rattle.heading.specs.Laws.Heading.{heading-size, serial-size, aerodrome-size}
-use Rattle.body.specs.Remarks.{remarkLines}
 use Rattle.body.specs.Laws.Size.{rows-size, remarks-size}
 use Rattle.notice.specs.declared.Record.{Record}
 use Rattle.notice.specs.Record.{validRecord}

@@ -3,13 +3,8 @@ use Prim.Native.Nat.{ℕ}
 use mathlib.Core.Path.{_≡_, refl, sym, _∙_, ap}
 use mathlib.Core.List.{List, [], _∷_, _++_, append-assoc}
 use Rattle.text.specs.Piece.{Piece, byte, end, last, canonical}
-use Rattle.text.specs.Lines.{ended}
+use Rattle.text.specs.Lines.{ended, under}
 use Rattle.text.specs.Laws.Put.{canonical-append}
-
--- lines, each with the LF before it
-unfoldable pub under : List (List Piece) → List ℕ
-under [] = []
-under (ps ∷ pss) = 10 ∷ (canonical ps ++ under pss)
 
 pub under-append : (pss qss : List (List Piece)) → under (pss ++ qss) ≡ under pss ++ under qss
 unfolding under

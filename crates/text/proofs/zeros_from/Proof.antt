@@ -1,13 +1,13 @@
-use Rattle.items.proofs.Steps.{all-end, all-on, all-off}
+use Rattle.text.specs.Laws.Arrays.{all-end, all-on, all-off}
 use borrow.Author.Tests.{eq-eqb, ne-eqb}
 use mathlib.Core.Path.{sym, _∙_, _≡_}
 use borrow.Author.Needs.{needs}
 use Prim.Native.Nat.{_-_}
 use Rattle.text.specs.Choice.{all}
 use Rattle.text.specs.Arrays.{isZero}
 use lib.ListN.{getD, drop, length}
-use Rattle.items.proofs.zeros_from.Statement.{statement}
-use Rattle.items.proofs.zeros_from.Tie as tie
+use Rattle.text.proofs.zeros_from.Statement.{statement}
+use Rattle.text.proofs.zeros_from.Tie as tie
 
 abbrev Inv-loop : tie.InvT-loop
 Inv-loop s i j₀ j = all isZero (drop i s) ≡ all isZero (drop j s)
