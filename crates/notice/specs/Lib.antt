@@ -3,6 +3,7 @@ pub mod Record
 pub mod Notice
 pub mod Reading
 pub mod Writing
+pub mod Front
 pub mod Laws
 pub mod Theorems
 pub mod Examples
