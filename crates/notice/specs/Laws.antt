@@ -3,3 +3,4 @@ pub mod Lines
 pub mod Size
 pub mod Reading
 pub mod Front
+pub mod Text

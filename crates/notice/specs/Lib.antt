@@ -4,6 +4,7 @@ pub mod Notice
 pub mod Reading
 pub mod Writing
 pub mod Front
+pub mod Below
 pub mod Laws
 pub mod Theorems
 pub mod Examples

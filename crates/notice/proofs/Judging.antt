@@ -1,0 +1,84 @@
+-- What is below the front: the rows, the remarks, and whether the lines agree.
+use Prim.Native.Nat.{ℕ, _-_, _<_, _≤_}
+use mathlib.Core.Path.{_≡_, refl, sym, subst, _∙_, ap}
+use mathlib.Core.List.{List, []}
+use mathlib.Core.Bool.{Bool, true, false}
+use native.Mathlib.Omega.{arith}
+use lib.Dec.{eqb, leb}
+use lib.ListN.{length, take, drop}
+use borrow.Author.Tests.{eq-eqb, ne-eqb, le-leb, lt-leb}
+use Rattle.text.specs.Choice.{pick, sameBytes}
+use Rattle.text.specs.Lines.{lines}
+use Rattle.text.specs.Laws.Held.{part-all}
+use Rattle.body.specs.declared.Rows.{Rows}
+use Rattle.body.specs.declared.RowsRead.{RowsRead}
+use Rattle.body.specs.Out.{Out, refuse, taken, next}
+use Rattle.body.specs.Rows.{mostRows, rowsOf, makeRows, latest, After, finished, more, Block, readRows}
+use Rattle.body.specs.Remarks.{Remarks, readRemarks}
+use Rattle.body.specs.Held.{RowsHeld}
+use Rattle.body.specs.Laws.Out.{Numbered}
+use Rattle.body.specs.Laws.Remarks.{remarks-numbered}
+use Rattle.notice.specs.declared.Front.{Front}
+use Rattle.notice.specs.declared.FrontRead.{FrontRead}
+use Rattle.notice.specs.declared.Record.{Record}
+use Rattle.notice.specs.declared.Reading.{Reading}
+use Rattle.notice.specs.Record.{makeRecord}
+use Rattle.notice.specs.Reading.{agreeing, readNotice, accepted, refused, result, longest, reading}
+use Rattle.notice.specs.Front.{headingOf, frontCount, blankFront, fillLines, readBelow, FrontHeld}
+use Rattle.notice.specs.Below.{agreement, judged, recordOf, remarksAnswer}
+use Rattle.notice.specs.Laws.Front.{front-is}
+
+-- the record of a front, rows and remarks, if its lines agree
+abbrev settled : Front → Rows → Remarks → Out Record
+settled f r x = agreeing (headingOf f) (f .serial) (f .aerodrome) (rowsOf r) (makeRecord (f .addresses) (f .filing) (f .title) (rowsOf r) x)
+
+-- 10, 11 and 12, or the record
+agreed : (f : Front) (r : Rows) (x : Remarks) (all : Record) → all ≡ makeRecord (f .addresses) (f .filing) (f .title) (rowsOf r) x
+    → pick (eqb (agreement f r) 0) (accepted all) (refused (agreement f r)) ≡ result (settled f r x)
+unfolding agreement agreeing
+agreed f r x all e = go (eqb (f .title .serial) (f .serial)) (sameBytes (f .title .aerodrome) (f .aerodrome)) (eqb (f .time) (latest (rowsOf r)))
+  where
+    go : (a b c : Bool) → pick (eqb (pick a (pick b (pick c 0 12) 11) 10) 0) (accepted all) (refused (pick a (pick b (pick c 0 12) 11) 10))
+        ≡ result (pick a (pick b (pick c (taken (makeRecord (f .addresses) (f .filing) (f .title) (rowsOf r) x)) (refuse 12)) (refuse 11)) (refuse 10))
+    go true true true = ap accepted e
+    go true true false = refl
+    go true false c = refl
+    go false b c = refl
+
+-- the remarks decide first, then 10, 11 and 12
+judged-is : (f : Front) (r : Rows) → r ≡ makeRows (rowsOf r) → (o : Out Remarks) → Numbered o → judged f r (remarksAnswer o) ≡ result (next o (settled f r))
+unfolding judged
+judged-is f r kept (refuse n) h = rw (ne-eqb n 0 (λ e. omega arith))
+judged-is f r kept (taken x) h = went
+  where
+    whole : recordOf f r (remarksAnswer (taken x)) ≡ makeRecord (f .addresses) (f .filing) (f .title) (rowsOf r) x
+    whole = λ i. record { addresses = f .addresses; filing = f .filing; title = f .title; rows = kept i; items = remarksAnswer (taken x) .items; language = remarksAnswer (taken x) .language }
+
+    went : pick (eqb (agreement f r) 0) (accepted (recordOf f r (remarksAnswer (taken x)))) (refused (agreement f r)) ≡ result (settled f r x)
+    went = agreed f r x (recordOf f r (remarksAnswer (taken x))) whole
+
+-- the rows of the message m gave this answer
+module _ (f : Front) (m : List ℕ) (r : RowsRead) (h : RowsHeld m r) where
+  pub rows-refused : (r .refusal ≡ 0 → ⊥) → refused (r .refusal) ≡ result (readBelow f (lines m))
+  unfolding readBelow
+  rows-refused n = rw (h .says, ne-eqb (r .refusal) 0 n)
+
+  pub rows-read : r .refusal ≡ 0 → judged f (r .rows) (remarksAnswer (readRemarks (pick (r .closed) finished (more (lines (drop (r .next) m)))))) ≡ result (readBelow f (lines m))
+  unfolding readBelow
+  rows-read z =
+      let after : After = pick (r .closed) finished (more (lines (drop (r .next) m))) in
+      rw (h .says, z) (judged-is f (r .rows) (h .kept .zeros) (readRemarks after) (remarks-numbered after))
+
+-- the front of the message m gave this answer
+module _ (m : List ℕ) (few : length m ≤ longest) (r : FrontRead) (h : FrontHeld m r) where
+  pub front-refuses : (r .refusal ≡ 0 → ⊥) → refused (r .refusal) ≡ reading m
+  unfolding reading
+  front-refuses n = rw (le-leb (length m) longest few, front-is (lines m), h .says, ne-eqb (r .refusal) 0 n)
+
+  pub front-goes-on : r .refusal ≡ 0 → result (readBelow (r .front) (lines (drop (r .next) m))) ≡ reading m
+  unfolding reading
+  front-goes-on z = rw (le-leb (length m) longest few, front-is (lines m), h .says, z)
+
+pub too-long : (m : List ℕ) → longest < length m → refused 1 ≡ reading m
+unfolding reading
+too-long m h = rw (lt-leb (length m) longest h)

@@ -1,0 +1,21 @@
+use lib.ListN.{length}
+use Rattle.notice.specs.Notice.{noticeText}
+use Rattle.notice.specs.Laws.Size.{text-fits}
+use borrow.Author.Tests.{le-leb}
+use native.Mathlib.Omega.{arith}
+use mathlib.Core.Path.{sym}
+use borrow.Author.Needs.{needs}
+use Rattle.notice.proofs.fits.Statement.{statement}
+use Rattle.notice.proofs.fits.Tie as tie
+
+returns : tie.Need-returns
+returns c = let s = c .before in sym (le-leb (length (noticeText (s .args .r))) (s .args .room) (omega (arith, text-fits (s .args .r) (s .pre))))
+
+text-size-requires : tie.Need-text-size-requires
+text-size-requires c κs = search needs
+
+returns-2 : tie.Need-returns-2
+returns-2 c = rw (c .text-size .ensures)
+
+pub fits-spec : {M : Type 1} → statement M
+fits-spec = tie.close (tie.spec returns text-size-requires returns-2)
