@@ -1,0 +1,80 @@
+use mathlib.Core.Path.{refl, sym, _∙_}
+use Prim.Native.Nat.{_-_}
+use lib.ListN.{length-map}
+use borrow.Author.Tests.{eq-eqb}
+use Rattle.text.specs.Laws.Tests.{tests, and-on}
+use Rattle.sameness.specs.Same.{sameItem, sameItems}
+use Rattle.sameness.proofs.Loops.{Left, left-on, left-off, left-end}
+use borrow.Author.Needs.{needs}
+use Rattle.sameness.proofs.same_items.Statement.{statement}
+use Rattle.sameness.proofs.same_items.Tie as tie
+
+abbrev Inv-loop : tie.InvT-loop
+Inv-loop a b i₀ i = Left sameItem 32 (a .items) (b .items) (sameItems a b) i
+
+abbrev μ-loop : tie.MeasureT-loop
+μ-loop a b i₀ i = 32 - i
+
+returns : tie.Need-returns Inv-loop μ-loop
+unfolding sameItems
+returns c = search tests
+
+loop-holds : tie.Need-loop-holds Inv-loop μ-loop
+unfolding sameItems
+loop-holds c =
+    let s = c .before in
+    record {
+      one = simp length-map at (s .good .0 .1 .1 .1 .0 .1 .0 .1);
+      two = simp length-map at (s .good .1 .0 .1 .1 .1 .0 .1 .0 .1);
+      within = search needs;
+      is = sym (and-on _ _ _ (eq-eqb _ _ (c .if1 .left)) refl);
+    }
+
+mul-x : tie.Need-mul-x Inv-loop μ-loop
+mul-x c = search needs
+
+element-copy-out-x : tie.Need-element-copy-out-x Inv-loop μ-loop
+element-copy-out-x c = search needs
+
+mul-y : tie.Need-mul-y Inv-loop μ-loop
+mul-y c = search needs
+
+element-copy-out-y : tie.Need-element-copy-out-y Inv-loop μ-loop
+element-copy-out-y c = search needs
+
+same-item-requires : tie.Need-same-item-requires Inv-loop μ-loop
+same-item-requires c κs = search needs
+
+add-i : tie.Need-add-i Inv-loop μ-loop
+add-i c = search needs
+
+loop-less : tie.Need-loop-less Inv-loop μ-loop
+loop-less c = search needs
+
+loop-again : tie.Need-loop-again Inv-loop μ-loop
+loop-again c = left-on sameItem (c .before .before .before .before .before .loop .inv) _ (search needs) (sym (c .before .same-item .ensures) ∙ c .if2 .taken)
+
+returns-2 : tie.Need-returns-2 Inv-loop μ-loop
+returns-2 c = left-off sameItem (c .before .before .before .before .before .loop .inv) _ (search needs) (sym (c .before .same-item .ensures) ∙ c .if2 .left)
+
+returns-3 : tie.Need-returns-3 Inv-loop μ-loop
+returns-3 c = left-end sameItem (c .before .loop .inv) (search needs)
+
+pub same-items-spec : {M : Type 1} → statement M
+same-items-spec =
+    tie.close
+    (tie.spec
+    Inv-loop
+    μ-loop
+    returns
+    loop-holds
+    mul-x
+    element-copy-out-x
+    mul-y
+    element-copy-out-y
+    same-item-requires
+    add-i
+    loop-less
+    loop-again
+    returns-2
+    returns-3)
