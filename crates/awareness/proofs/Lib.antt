@@ -1,3 +1,5 @@
 pub mod Names
 pub mod Details
 pub mod Writing
+pub mod Named
+pub mod Slots

@@ -1,24 +1,31 @@
 // The items of the awareness line: reading the words of one and an item of a runway, and writing every item.
 
 ghost use mathlib.Core.Path.{_≡_};
-ghost use Prim.Native.Nat.{_≤_};
-ghost use lib.ListN.{length, drop};
+ghost use Prim.Native.Nat.{_*_, _≤_};
+ghost use mathlib.Core.Bool.{true};
+ghost use lib.ListN.{length, drop, replicate};
+ghost use lib.Seq.{sets};
+ghost use Rattle.text.specs.Choice.{all};
+ghost use Rattle.text.specs.Read.{readAs, readGap};
 ghost use Rattle.text.specs.Held.{Held};
 ghost use Rattle.text.specs.Piece.{canonical, spell};
 ghost use Rattle.text.specs.Put.{Put};
-ghost use Rattle.text.specs.Names.{readName};
+ghost use Rattle.text.specs.Names.{isName, readRun, readName};
 ghost use Rattle.text.specs.Numbers.{readNumber, number};
-ghost use Rattle.items.specs.Item.{nameAtFront};
+ghost use Rattle.items.specs.Item.{isTaxiway, nameAtFront};
 ghost use Rattle.items.specs.ItemText.{edgeName, ofRunway, lengthText, bankText, ofTaxiways, poorTaxiways, poorApron, itemText, itemPieces};
-ghost use Rattle.items.specs.ReadItem.{openings, openingName, sayings, saying, taxiSayings, taxiSaying, edges, readLength, readBank, readDetail, readRunwayForm, runwayItem};
+ghost use Rattle.items.specs.ReadItem.{openings, openingName, sayings, saying, taxiSayings, taxiSaying, edges, readLength, readBank, readDetail, readRunwayForm, runwayItem, readTaxiway, readSomeTaxiways};
 ghost use Rattle.awareness.specs.Held.{Reads, HeldItem, FrontSlot, noItem, taxiwayNames};
+ghost use Rattle.awareness.specs.Named.{HeldName, inSlots};
 use items::Item;
 use items::blank_item;
 use runway::put_runway;
 use runway::read_runway;
 use text::CAPITALS_AND_DIGITS;
 use text::Found;
+use text::LETTERS;
 use text::digits;
+use text::place;
 use text::put;
 use text::put_digits;
 use text::run;
@@ -53,6 +60,26 @@ const NO_DETAIL: DetailFound = DetailFound {
     next: 0,
 };
 
+// A name in a text: where it starts, and the place behind it.
+struct NameFound {
+    fits: bool,
+    start: usize,
+    next: usize,
+}
+
+// Taxiways one behind the other, three bytes for each and zeros behind them.
+struct TaxiwaysFound {
+    count: u8,
+    taxiways: [u8; 24],
+    next: usize,
+}
+
+const NO_NAME: NameFound = NameFound {
+    fits: false,
+    start: 0,
+    next: 0,
+};
+
 // The openings, by number.
 const OPENS_RUNWAY: u32 = 0;
 
@@ -67,6 +94,8 @@ const OPENS_APRON: u32 = 4;
 const OPENS_ALL_APRONS: u32 = 5;
 
 const TAXIWAY_SIZE: usize = 3;
+
+const MOST_TAXIWAYS: u8 = 8;
 
 // ---- Reading an item
 
@@ -270,6 +299,91 @@ pub fn read_runway_item(s: &[u8], i: usize) -> ItemFound
         fits: true,
         item: runway_item(y.value as u8, w.number, w.side, d.edge, d.amount),
         next: d.next,
+    }
+}
+
+// The capitals and digits behind a gap, perhaps none.
+fn gap_name(s: &[u8], i: usize) -> NameFound
+    ensures { λ r. ⌜ HeldName (now (s .entry)) (readGap (readRun isName) (drop i (now (s .entry)))) r ⌝ }
+{
+    let g = word(s, i, b" ", 0);
+    if !g.fits {
+        return NO_NAME;
+    }
+    let start = g.next;
+    let size = run(&s[start..], 0, CAPITALS_AND_DIGITS);
+    NameFound {
+        fits: true,
+        start,
+        next: start + size,
+    }
+}
+
+// Whether a name is a taxiway: it starts with a letter, and is not too long.
+fn is_taxiway(name: &[u8]) -> bool
+    requires { ⌜ all isName (now name) ≡ true ⌝ }
+    ensures { λ r. ⌜ r ≡ isTaxiway (now (name .entry)) ⌝ }
+{
+    if run(name, 0, LETTERS) == 0 {
+        return false;
+    }
+    name.len() <= TAXIWAY_SIZE
+}
+
+// The taxiway behind a gap.
+fn taxiway(s: &[u8], i: usize) -> NameFound
+    ensures { λ r. ⌜ HeldName (now (s .entry)) (readGap readTaxiway (drop i (now (s .entry)))) r ⌝ }
+{
+    let name = gap_name(s, i);
+    if !name.fits {
+        return NO_NAME;
+    }
+    let start = name.start;
+    let next = name.next;
+    if is_taxiway(&s[start..next]) {
+        name
+    } else {
+        NO_NAME
+    }
+}
+
+// The array with one more taxiway, behind the `count` that it holds.
+fn with_taxiway(taxiways: [u8; 24], count: u8, name: &[u8]) -> [u8; 24]
+    ensures { λ r. ⌜ r ≡ sets taxiways (count * 3) (sets (replicate 3 0) 0 (now (name .entry))) ⌝ }
+{
+    let mut slot = [0u8; 3];
+    put(&mut slot, 0, name);
+    let mut all = taxiways;
+    put(&mut all, (count as usize) * TAXIWAY_SIZE, &slot);
+    all
+}
+
+// Up to 8 taxiways, a gap before each; the first word that is none ends them.
+fn taxiways(s: &[u8], i: usize) -> TaxiwaysFound
+    ensures { λ r. ⌜ Reads (now (s .entry)) (readAs inSlots (readSomeTaxiways 8) (drop i (now (s .entry)))) true (r .count, r .taxiways) (r .next) ⌝ }
+{
+    let mut taxiways = [0u8; 24];
+    let mut count: u8 = 0;
+    let mut at = place(s, i);
+    while count < MOST_TAXIWAYS {
+        let name = taxiway(s, at);
+        if !name.fits {
+            return TaxiwaysFound {
+                count,
+                taxiways,
+                next: at,
+            };
+        }
+        let start = name.start;
+        at = name.next;
+        let more = with_taxiway(taxiways, count, &s[start..at]);
+        taxiways = more;
+        count += 1;
+    }
+    TaxiwaysFound {
+        count,
+        taxiways,
+        next: at,
     }
 }
 
