@@ -3,3 +3,4 @@ pub mod Details
 pub mod Writing
 pub mod Named
 pub mod Slots
+pub mod Forms

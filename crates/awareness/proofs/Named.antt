@@ -7,10 +7,10 @@ use native.Mathlib.Omega.{arith}
 use lib.ListN.{length, take, drop}
 use lib.Seq.{drop-drop}
 use Rattle.text.specs.Choice.{pick, all}
-use Rattle.text.specs.Read.{Got, misfit, got, guard, andThen, readText, readGap, readIf}
-use Rattle.text.specs.Names.{isName, run, past, readRun}
+use Rattle.text.specs.Read.{Got, misfit, got, guard, andThen, readText, readGap, readIf, readBefore}
+use Rattle.text.specs.Names.{isName, past, readRun}
 use Rattle.text.specs.Held.{Reached}
-use Rattle.text.specs.Laws.Base.{then-got, carry, no-misfit}
+use Rattle.text.specs.Laws.Base.{then-got, guard-got, carry}
 use Rattle.text.specs.Laws.Held.{part-all}
 use Rattle.items.specs.Laws.Slots.{name-named}
 use Rattle.awareness.specs.Named.{HeldName}
@@ -25,6 +25,22 @@ run-span p m i {n} h =
     let q = rw part-all at h in
     rw (z, run-taken p (drop i m) q, ← drop-drop n i m, q .left)
 
+-- a gap comes before a test, and before what follows
+module _ {A : Type 0} (f : List ℕ → Got A) (m : List ℕ) where
+  gap-if : (p : A → Bool) → readGap (readIf p f) m ≡ readIf p (readGap f) m
+  gap-if p = go (readText (32 ∷ []) m)
+    where
+      go : (g : Got (Unit {0})) → andThen g (λ _ k. readIf p f k) ≡ andThen (andThen g (λ _ k. f k)) (λ a r. guard (p a) (got a r))
+      go misfit = refl
+      go (got u k) = refl
+
+  pub gap-before : (t : List ℕ) → readGap (readBefore f t) m ≡ readBefore (readGap f) t m
+  gap-before t = go (readText (32 ∷ []) m)
+    where
+      go : (g : Got (Unit {0})) → andThen g (λ _ k. readBefore f t k) ≡ andThen (andThen g (λ _ k. f k)) (λ a k. andThen (readText t k) (λ _ r. got a r))
+      go misfit = refl
+      go (got u k) = refl
+
 -- an answer that fits, and one that does not
 module _ {m : List ℕ} {g : Got (List ℕ)} {r : NameFound} (h : HeldName m g r) where
   pub name-there : r .fits ≡ true → g ≡ got (take (r .next - r .start) (drop (r .start) m)) (drop (r .next) m)
@@ -33,20 +49,34 @@ module _ {m : List ℕ} {g : Got (List ℕ)} {r : NameFound} (h : HeldName m g r
   pub name-off : r .fits ≡ false → g ≡ misfit
   name-off e = h .says ∙ ap (λ (b : Bool). pick b (got (take (r .next - r .start) (drop (r .start) m)) (drop (r .next) m)) misfit) e
 
-module _ (m : List ℕ) where
-  -- what a test makes of the name behind a gap
-  pub no-name : (p : List ℕ → Bool) → readGap (readRun isName) m ≡ misfit → readGap (readIf p (readRun isName)) m ≡ misfit
-  no-name p = go (readText (32 ∷ []) m)
-    where
-      go : (g : Got (Unit {0})) → andThen g (λ _ k. readRun isName k) ≡ misfit → andThen g (λ _ k. readIf p (readRun isName) k) ≡ misfit
-      go misfit e = refl
-      go (got u k) e = no-misfit (sym e)
+abbrev noName : NameFound
+noName = record { fits = false; start = 0; next = 0 }
 
-  module _ {w r : List ℕ} (e : readGap (readRun isName) m ≡ got w r) where
-    pub tested-name : (p : List ℕ → Bool) → readGap (readIf p (readRun isName)) m ≡ guard (p w) (got w r)
-    tested-name p =
-        let t = then-got (readText (32 ∷ []) m) e in
-        rw (t .one) (carry (λ a k. readIf p (readRun isName) (t .mid) ≡ guard (p a) (got a k)) (t .two) refl)
+unnamed : {m : List ℕ} {g : Got (List ℕ)} → g ≡ misfit → HeldName m g noName
+unnamed e = record { ordered = omega arith; within = omega arith; says = e }
 
-    pub name-bytes : all isName w ≡ true
-    name-bytes = let t = then-got (readText (32 ∷ []) m) e in carry (λ a _. all isName a ≡ true) (t .two) (name-named (t .mid))
+-- the name behind a gap, held against a test
+module _ (p : List ℕ → Bool) (m k : List ℕ) {r : NameFound} (h : HeldName m (readGap (readRun isName) k) r) where
+  pub none-named : r .fits ≡ false → HeldName m (readGap (readIf p (readRun isName)) k) noName
+  none-named e = unnamed (gap-if (readRun isName) k p ∙ rw (name-off h e))
+
+  module _ (f : r .fits ≡ true) {t : Bool} (e : t ≡ p (take (r .next - r .start) (drop (r .start) m))) where
+    tested : readGap (readIf p (readRun isName)) k ≡ guard t (got (take (r .next - r .start) (drop (r .start) m)) (drop (r .next) m))
+    tested = gap-if (readRun isName) k p ∙ rw (name-there h f, e)
+
+    pub name-passes : t ≡ true → HeldName m (readGap (readIf p (readRun isName)) k) r
+    name-passes u = record { ordered = h .ordered; within = h .within; says = tested ∙ rw (u, f) }
+
+    pub name-fails : t ≡ false → HeldName m (readGap (readIf p (readRun isName)) k) noName
+    name-fails u = unnamed (tested ∙ rw u)
+
+-- what is known of a name that was read
+module _ (m : List ℕ) {w r : List ℕ} where
+  pub name-bytes : readGap (readRun isName) m ≡ got w r → all isName w ≡ true
+  name-bytes e = let t = then-got (readText (32 ∷ []) m) e in carry (λ a _. all isName a ≡ true) (t .two) (name-named (t .mid))
+
+  pub name-passed : (p : List ℕ → Bool) → readGap (readIf p (readRun isName)) m ≡ got w r → p w ≡ true
+  name-passed p e =
+      let t = then-got (readGap (readRun isName) m) (sym (gap-if (readRun isName) m p) ∙ e) in
+      let g = guard-got (p (t .val)) (t .two) in
+      carry (λ a _. p a ≡ true) (g .1) (g .0)

@@ -7,15 +7,15 @@ use native.Mathlib.Omega.{arith}
 use lib.ListN.{length, drop, replicate, length-append, length-replicate}
 use lib.Seq.{sets, sets-eq}
 use borrow.Author.Tests.{leb-true}
-use Rattle.text.specs.Read.{Got, misfit, got, andThen, oneMore, readText, readAs, readGap, readMany}
-use Rattle.text.specs.Names.{isName, run}
+use Rattle.text.specs.Read.{Got, misfit, got, andThen, oneMore, readAs, readGap, readMany}
 use Rattle.text.specs.Arrays.{pad, flat}
-use Rattle.text.specs.Laws.Base.{and-2, then-got, guard-got, carry}
+use Rattle.text.specs.Laws.Base.{and-2, then-got, carry}
 use Rattle.text.specs.Laws.Arrays.{pad-length}
 use Rattle.text.specs.Laws.Put.{sets-join}
 use Rattle.items.specs.Item.{isTaxiway}
 use Rattle.items.specs.ReadItem.{readTaxiway, readSomeTaxiways}
 use Rattle.awareness.specs.Named.{inSlots}
+use Rattle.awareness.proofs.Named.{name-passed}
 
 -- bytes stored over zeros
 drop-zeros : (k n : ℕ) → k ≤ n → drop {A = ℕ} k (replicate n 0) ≡ replicate (n - k) 0
@@ -31,10 +31,7 @@ over-zeros n l h =
 -- how long taxiways are, and their slots
 short-taxiway : (m : List ℕ) {w r : List ℕ} → readGap readTaxiway m ≡ got w r → length w ≤ 3
 unfolding readTaxiway isTaxiway
-short-taxiway m e =
-    let t = then-got (readText (32 ∷ []) m) e in
-    let g = guard-got (isTaxiway (run isName (t .mid))) (t .two) in
-    carry (λ w _. length w ≤ 3) (g .1) (leb-true (length (run isName (t .mid))) 3 (and-2 _ _ (and-2 _ _ (g .0))))
+short-taxiway m {w} e = leb-true (length w) 3 (and-2 _ _ (and-2 _ _ (name-passed m isTaxiway e)))
 
 abbrev inBytes : List (List ℕ) → List ℕ
 inBytes ws = flat (map (pad 3 0) ws)

@@ -14,7 +14,7 @@ ghost use Rattle.text.specs.Names.{isName, readRun, readName};
 ghost use Rattle.text.specs.Numbers.{readNumber, number};
 ghost use Rattle.items.specs.Item.{isTaxiway, nameAtFront};
 ghost use Rattle.items.specs.ItemText.{edgeName, ofRunway, lengthText, bankText, ofTaxiways, poorTaxiways, poorApron, itemText, itemPieces};
-ghost use Rattle.items.specs.ReadItem.{openings, openingName, sayings, saying, taxiSayings, taxiSaying, edges, readLength, readBank, readDetail, readRunwayForm, runwayItem, readTaxiway, readSomeTaxiways};
+ghost use Rattle.items.specs.ReadItem.{openings, openingName, sayings, saying, taxiSayings, taxiSaying, edges, readLength, readBank, readDetail, readRunwayForm, runwayItem, readTaxiway, readSomeTaxiways, readTaxiForm, isApron, readApron, apronItem, readApronForm};
 ghost use Rattle.awareness.specs.Held.{Reads, HeldItem, FrontSlot, noItem, taxiwayNames};
 ghost use Rattle.awareness.specs.Named.{HeldName, inSlots};
 use items::Item;
@@ -96,6 +96,8 @@ const OPENS_ALL_APRONS: u32 = 5;
 const TAXIWAY_SIZE: usize = 3;
 
 const MOST_TAXIWAYS: u8 = 8;
+
+const APRON_SIZE: usize = 16;
 
 // ---- Reading an item
 
@@ -384,6 +386,89 @@ fn taxiways(s: &[u8], i: usize) -> TaxiwaysFound
         count,
         taxiways,
         next: at,
+    }
+}
+
+// The item behind TWY, without its full stop.
+fn read_taxi_item(s: &[u8], i: usize) -> ItemFound
+    ensures { λ r. ⌜ HeldItem (now (s .entry)) (readTaxiForm (drop i (now (s .entry)))) r ⌝ }
+{
+    let t = taxiways(s, i);
+    if t.count == 0 {
+        return no_item();
+    }
+    let y = taxi_saying(s, t.next);
+    if !y.fits {
+        return no_item();
+    }
+    let names = t.taxiways;
+    let mut item = blank_item();
+    item.letter = y.value as u8;
+    item.count = t.count;
+    item.taxiways = names;
+    ItemFound {
+        fits: true,
+        item,
+        next: y.next,
+    }
+}
+
+fn is_apron(name: &[u8]) -> bool
+    ensures { λ r. ⌜ r ≡ isApron (now (name .entry)) ⌝ }
+{
+    if name.len() < 1 {
+        return false;
+    }
+    name.len() <= APRON_SIZE
+}
+
+// The apron's name behind a gap.
+fn apron(s: &[u8], i: usize) -> NameFound
+    ensures { λ r. ⌜ HeldName (now (s .entry)) (readGap readApron (drop i (now (s .entry)))) r ⌝ }
+{
+    let name = gap_name(s, i);
+    if !name.fits {
+        return NO_NAME;
+    }
+    let start = name.start;
+    let next = name.next;
+    if is_apron(&s[start..next]) {
+        name
+    } else {
+        NO_NAME
+    }
+}
+
+fn apron_item(name: &[u8]) -> Item
+    requires { ⌜ length (now name) ≤ 16 ⌝ }
+    ensures { λ r. ⌜ r ≡ apronItem (now (name .entry)) ⌝ }
+{
+    let mut field = [0u8; 16];
+    put(&mut field, 0, name);
+    let mut i = blank_item();
+    i.letter = b'R';
+    i.name = field;
+    i
+}
+
+// The item behind APRON, without its full stop.
+fn read_apron_item(s: &[u8], i: usize) -> ItemFound
+    ensures { λ r. ⌜ HeldItem (now (s .entry)) (readApronForm (drop i (now (s .entry)))) r ⌝ }
+{
+    let name = apron(s, i);
+    if !name.fits {
+        return no_item();
+    }
+    let start = name.start;
+    let next = name.next;
+    let w = word(s, next, b" POOR", 0);
+    if !w.fits {
+        return no_item();
+    }
+    ItemFound {
+        fits: true,
+        item: apron_item(&s[start..next]),
+        next: w.next,
     }
 }
 
