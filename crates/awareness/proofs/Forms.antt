@@ -4,16 +4,19 @@ use mathlib.Core.Path.{_≡_, refl, sym, _∙_, ap}
 use mathlib.Core.List.{List, [], _∷_}
 use mathlib.Core.Bool.{true, not}
 use native.Mathlib.Omega.{arith}
-use lib.ListN.{length, replicate}
+use lib.ListN.{length, drop, replicate}
 use borrow.Author.Tests.{leb-true}
-use Rattle.text.specs.Choice.{_and_, isEmpty}
+use Rattle.text.specs.Choice.{pick, _and_, isEmpty}
 use Rattle.text.specs.Piece.{bytes}
 use Rattle.text.specs.Read.{Got, misfit, got, guard, andThen, readText, readAs, readGap, readBefore}
 use Rattle.text.specs.Names.{readName}
 use Rattle.text.specs.Laws.Base.{and-2, then-got, carry}
 use Rattle.items.specs.declared.Item.{Item}
-use Rattle.items.specs.ReadItem.{taxiSayings, taxiSaying, taxiItem, readSomeTaxiways, readTaxiways, readTaxiForm, isApron, readApron, apronItem, readApronForm}
-use Rattle.awareness.specs.Named.{inSlots}
+use Rattle.items.specs.Item.{validItem}
+use Rattle.items.specs.ReadItem.{taxiSayings, taxiSaying, taxiItem, readSomeTaxiways, readTaxiways, readTaxiForm, isApron, readApron, apronItem, readApronForm, openings, openingName, readBareForm, readForm, readBody, readItem}
+use Rattle.awareness.specs.Held.{HeldItem, noItem}
+use Rattle.awareness.specs.Named.{inSlots, bareFound}
+use Rattle.awareness.specs.declared.ItemFound.{ItemFound}
 use Rattle.awareness.proofs.Names.{name-low}
 use Rattle.awareness.proofs.Named.{gap-before, name-passed}
 
@@ -80,3 +83,39 @@ module _ (m : List ℕ) where
     pub short-apron : length w ≤ 16
     unfolding readApron
     short-apron = leb-true (length w) 16 (and-2 _ _ (name-passed m isApron e))
+
+-- behind words that are the whole text
+pub held-bare : {m : List ℕ} (l i : ℕ) {r : ItemFound} → i ≤ length m → r ≡ bareFound l i → HeldItem m (readBareForm l (drop i m)) r
+unfolding readBareForm
+held-bare {m} l i {r} h e = record {
+  within = rw e h;
+  says = sym (ap (λ (q : ItemFound). pick (q .fits) (got (q .item) (drop (q .next) m)) misfit) e);
+  blank = e ∙ sym (ap (λ (q : ItemFound). pick (q .fits) q noItem) e);
+}
+
+-- an item without its full stop, and with it
+module _ (m : List ℕ) where
+  pub no-opening : readName openingName openings m ≡ misfit → readBody m ≡ misfit
+  unfolding readBody
+  no-opening e = rw e
+
+  pub opened : {a : ℕ} {k : List ℕ} → readName openingName openings m ≡ got a k → readBody m ≡ readForm a k
+  unfolding readBody
+  opened {a} {k} e = rw e (go (readForm a k))
+    where
+      go : (g : Got Item) → andThen {A = ℕ × Item} (andThen g (λ b r. got (a, b) r)) (λ p r. got (p .1) r) ≡ g
+      go misfit = refl
+      go (got i r) = refl
+
+  pub no-body : readBody m ≡ misfit → readItem m ≡ misfit
+  unfolding readItem
+  no-body e = rw e
+
+  module _ {i : Item} {k : List ℕ} (e : readBody m ≡ got i k) where
+    pub no-stop : readText (bytes ".") k ≡ misfit → readItem m ≡ misfit
+    unfolding readItem
+    no-stop q = rw (e, q)
+
+    pub stopped : {r : List ℕ} → readText (bytes ".") k ≡ got tt r → readItem m ≡ guard (validItem i) (got i r)
+    unfolding readItem
+    stopped q = rw (e, q)

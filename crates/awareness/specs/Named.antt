@@ -2,11 +2,14 @@
 use Prim.Native.Nat.{ℕ, _-_, _≤_}
 use mathlib.Core.Path.{_≡_}
 use mathlib.Core.List.{List, map}
+use mathlib.Core.Bool.{true}
 use lib.ListN.{length, take, drop}
 use Rattle.text.specs.Choice.{pick}
 use Rattle.text.specs.Read.{Got, misfit, got}
 use Rattle.text.specs.Arrays.{pad, flat}
 use Rattle.items.specs.Item.{taxiwaySize, taxiwayBytes}
+use Rattle.items.specs.ReadItem.{bareItem}
+use Rattle.awareness.specs.declared.ItemFound.{ItemFound}
 use Rattle.awareness.specs.declared.NameFound.{NameFound}
 
 -- the answer r is the reading g of a name in m: it stands from `start` to `next`
@@ -18,3 +21,7 @@ pub record HeldName (m : List ℕ) (g : Got (List ℕ)) (r : NameFound) : Type 0
 -- taxiways as an item holds them: how many, and three bytes for each
 abbrev pub inSlots : List (List ℕ) → ℕ × List ℕ
 inSlots ws = (length ws, pad taxiwayBytes 0 (flat (map (pad taxiwaySize 0) ws)))
+
+-- an item of fixed words, found before the place `next`
+abbrev pub bareFound : ℕ → ℕ → ItemFound
+bareFound letter′ next′ = record { fits = true; item = bareItem letter′; next = next′ }

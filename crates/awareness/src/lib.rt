@@ -14,11 +14,12 @@ ghost use Rattle.text.specs.Names.{isName, readRun, readName};
 ghost use Rattle.text.specs.Numbers.{readNumber, number};
 ghost use Rattle.items.specs.Item.{isTaxiway, nameAtFront};
 ghost use Rattle.items.specs.ItemText.{edgeName, ofRunway, lengthText, bankText, ofTaxiways, poorTaxiways, poorApron, itemText, itemPieces};
-ghost use Rattle.items.specs.ReadItem.{openings, openingName, sayings, saying, taxiSayings, taxiSaying, edges, readLength, readBank, readDetail, readRunwayForm, runwayItem, readTaxiway, readSomeTaxiways, readTaxiForm, isApron, readApron, apronItem, readApronForm};
+ghost use Rattle.items.specs.ReadItem.{openings, openingName, sayings, saying, taxiSayings, taxiSaying, edges, readLength, readBank, readDetail, readRunwayForm, runwayItem, readTaxiway, readSomeTaxiways, readTaxiForm, isApron, readApron, apronItem, readApronForm, readForm, readBody, readItem};
 ghost use Rattle.awareness.specs.Held.{Reads, HeldItem, FrontSlot, noItem, taxiwayNames};
-ghost use Rattle.awareness.specs.Named.{HeldName, inSlots};
+ghost use Rattle.awareness.specs.Named.{HeldName, inSlots, bareFound};
 use items::Item;
 use items::blank_item;
+use items::valid_item;
 use runway::put_runway;
 use runway::read_runway;
 use text::CAPITALS_AND_DIGITS;
@@ -102,30 +103,30 @@ const APRON_SIZE: usize = 16;
 // ---- Reading an item
 
 // The words that an item opens with.
-pub fn opening(s: &[u8]) -> Found
-    ensures { λ r. ⌜ Held (now (s .entry)) (readName openingName openings (now (s .entry))) r ⌝ }
+fn opening(s: &[u8], i: usize) -> Found
+    ensures { λ r. ⌜ Held (now (s .entry)) (readName openingName openings (drop i (now (s .entry)))) r ⌝ }
 {
-    let a = word(s, 0, b"RWY", OPENS_RUNWAY);
+    let a = word(s, i, b"RWY", OPENS_RUNWAY);
     if a.fits {
         return a;
     }
-    let b = word(s, 0, b"DRIFTING SNOW", OPENS_DRIFTING);
+    let b = word(s, i, b"DRIFTING SNOW", OPENS_DRIFTING);
     if b.fits {
         return b;
     }
-    let c = word(s, 0, b"TWY", OPENS_TAXIWAYS);
+    let c = word(s, i, b"TWY", OPENS_TAXIWAYS);
     if c.fits {
         return c;
     }
-    let d = word(s, 0, b"ALL TWY POOR", OPENS_ALL_TAXIWAYS);
+    let d = word(s, i, b"ALL TWY POOR", OPENS_ALL_TAXIWAYS);
     if d.fits {
         return d;
     }
-    let e = word(s, 0, b"APRON", OPENS_APRON);
+    let e = word(s, i, b"APRON", OPENS_APRON);
     if e.fits {
         return e;
     }
-    word(s, 0, b"ALL APRON POOR", OPENS_ALL_APRONS)
+    word(s, i, b"ALL APRON POOR", OPENS_ALL_APRONS)
 }
 
 // What is said of a runway.
@@ -152,7 +153,7 @@ fn saying(s: &[u8], i: usize) -> Found
 }
 
 // What is said of taxiways.
-pub fn taxi_saying(s: &[u8], i: usize) -> Found
+fn taxi_saying(s: &[u8], i: usize) -> Found
     ensures { λ r. ⌜ Held (now (s .entry)) (readName taxiSaying taxiSayings (drop i (now (s .entry)))) r ⌝ }
 {
     let a = word(s, i, b" SNOWBANK", b'N' as u32);
@@ -278,7 +279,7 @@ fn runway_item(letter: u8, number: u8, side: u8, edge: u8, amount: u16) -> Item
 }
 
 // The item behind RWY, without its full stop.
-pub fn read_runway_item(s: &[u8], i: usize) -> ItemFound
+fn read_runway_item(s: &[u8], i: usize) -> ItemFound
     ensures { λ r. ⌜ HeldItem (now (s .entry)) (readRunwayForm (drop i (now (s .entry)))) r ⌝ }
 {
     let g = word(s, i, b" ", 0);
@@ -469,6 +470,67 @@ fn read_apron_item(s: &[u8], i: usize) -> ItemFound
         fits: true,
         item: apron_item(&s[start..next]),
         next: w.next,
+    }
+}
+
+// The item of fixed words, which end at `i`.
+fn bare_item(letter: u8, i: usize) -> ItemFound
+    ensures { λ r. ⌜ r ≡ bareFound letter i ⌝ }
+{
+    ItemFound {
+        fits: true,
+        item: runway_item(letter, 0, 0, 0, 0),
+        next: i,
+    }
+}
+
+// What the opening calls for, at the place behind it.
+fn read_form(opening: u32, s: &[u8], i: usize) -> ItemFound
+    requires { ⌜ i ≤ length (now s) ⌝ }
+    ensures { λ r. ⌜ HeldItem (now (s .entry)) (readForm opening (drop i (now (s .entry)))) r ⌝ }
+{
+    match opening {
+        OPENS_RUNWAY => read_runway_item(s, i),
+        OPENS_DRIFTING => bare_item(b'J', i),
+        OPENS_TAXIWAYS => read_taxi_item(s, i),
+        OPENS_ALL_TAXIWAYS => bare_item(b'P', i),
+        OPENS_APRON => read_apron_item(s, i),
+        _ => bare_item(b'R', i),
+    }
+}
+
+// An item without its full stop.
+fn read_body(s: &[u8], i: usize) -> ItemFound
+    ensures { λ r. ⌜ HeldItem (now (s .entry)) (readBody (drop i (now (s .entry)))) r ⌝ }
+{
+    let o = opening(s, i);
+    if !o.fits {
+        return no_item();
+    }
+    read_form(o.value, s, o.next)
+}
+
+// An item, ended by a full stop.
+fn read_item(s: &[u8], i: usize) -> ItemFound
+    ensures { λ r. ⌜ HeldItem (now (s .entry)) (readItem (drop i (now (s .entry)))) r ⌝ }
+{
+    let b = read_body(s, i);
+    if !b.fits {
+        return no_item();
+    }
+    let w = word(s, b.next, b".", 0);
+    if !w.fits {
+        return no_item();
+    }
+    let item = b.item;
+    if valid_item(item) {
+        ItemFound {
+            fits: true,
+            item,
+            next: w.next,
+        }
+    } else {
+        no_item()
     }
 }
 

@@ -13,10 +13,10 @@ use Rattle.awareness.specs.declared.ItemFound.{ItemFound}
 use Rattle.awareness.specs.Held.{HeldItem, noItem}
 
 module _ {m : List ℕ} {g : Got Item} (r : ItemFound) (h : HeldItem m g r) where
-  item-of : r .fits ≡ true → g ≡ got (r .item) (drop (r .next) m)
+  pub item-of : r .fits ≡ true → g ≡ got (r .item) (drop (r .next) m)
   item-of x = h .says ∙ rw x
 
-  misfit-of : r .fits ≡ false → g ≡ misfit
+  pub misfit-of : r .fits ≡ false → g ≡ misfit
   misfit-of x = h .says ∙ rw x
 
   none-of : r .fits ≡ false → r ≡ noItem
