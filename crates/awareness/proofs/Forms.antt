@@ -21,7 +21,7 @@ use Rattle.awareness.proofs.Names.{name-low}
 use Rattle.awareness.proofs.Named.{gap-before, name-passed}
 
 -- behind TWY: taxiways that are in their slots, and what is said of them
-abbrev pub slotItem : ℕ → ℕ × List ℕ → Item
+abbrev slotItem : ℕ → ℕ × List ℕ → Item
 slotItem l p = record { letter = l; number = 0; side = 0; amount = 0; edge = 0; count = p .0; taxiways = p .1; name = replicate 16 0 }
 
 abbrev behind : List (List ℕ) → List ℕ → Got Item

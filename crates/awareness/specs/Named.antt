@@ -22,6 +22,6 @@ pub record HeldName (m : List ℕ) (g : Got (List ℕ)) (r : NameFound) : Type 0
 abbrev pub inSlots : List (List ℕ) → ℕ × List ℕ
 inSlots ws = (length ws, pad taxiwayBytes 0 (flat (map (pad taxiwaySize 0) ws)))
 
--- an item of fixed words, found before the place `next`
+-- an item of fixed words, found before the place i
 abbrev pub bareFound : ℕ → ℕ → ItemFound
-bareFound letter′ next′ = record { fits = true; item = bareItem letter′; next = next′ }
+bareFound l i = record { fits = true; item = bareItem l; next = i }

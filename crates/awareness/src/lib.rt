@@ -1,4 +1,4 @@
-// The items of the awareness line: reading the words of one and an item of a runway, and writing every item.
+// The items of the awareness line, each read at its place in a text and put into a buffer.
 
 ghost use mathlib.Core.Path.{_≡_};
 ghost use Prim.Native.Nat.{_*_, _≤_};
@@ -68,18 +68,18 @@ struct NameFound {
     next: usize,
 }
 
+const NO_NAME: NameFound = NameFound {
+    fits: false,
+    start: 0,
+    next: 0,
+};
+
 // Taxiways one behind the other, three bytes for each and zeros behind them.
 struct TaxiwaysFound {
     count: u8,
     taxiways: [u8; 24],
     next: usize,
 }
-
-const NO_NAME: NameFound = NameFound {
-    fits: false,
-    start: 0,
-    next: 0,
-};
 
 // The openings, by number.
 const OPENS_RUNWAY: u32 = 0;
@@ -414,6 +414,7 @@ fn read_taxi_item(s: &[u8], i: usize) -> ItemFound
     }
 }
 
+// Whether a name is an apron's: not empty, and not too long.
 fn is_apron(name: &[u8]) -> bool
     ensures { λ r. ⌜ r ≡ isApron (now (name .entry)) ⌝ }
 {
@@ -440,6 +441,7 @@ fn apron(s: &[u8], i: usize) -> NameFound
     }
 }
 
+// The item of one apron, zeros behind its name.
 fn apron_item(name: &[u8]) -> Item
     requires { ⌜ length (now name) ≤ 16 ⌝ }
     ensures { λ r. ⌜ r ≡ apronItem (now (name .entry)) ⌝ }
