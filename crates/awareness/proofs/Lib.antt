@@ -4,3 +4,5 @@ pub mod Writing
 pub mod Named
 pub mod Slots
 pub mod Forms
+pub mod LineReading
+pub mod LineWriting

@@ -1,24 +1,28 @@
-// The items of the awareness line, each read at its place in a text and put into a buffer.
+// The awareness line: its items, and the line that they make, read at its place in a message and put into a buffer.
 
 ghost use mathlib.Core.Path.{_≡_};
 ghost use Prim.Native.Nat.{_*_, _≤_};
 ghost use mathlib.Core.Bool.{true};
-ghost use lib.ListN.{length, drop, replicate};
+ghost use lib.ListN.{length, drop, replicate, take};
 ghost use lib.Seq.{sets};
-ghost use Rattle.text.specs.Choice.{all};
-ghost use Rattle.text.specs.Read.{readAs, readGap};
+ghost use Rattle.text.specs.Choice.{all, pick};
+ghost use Rattle.text.specs.Read.{readAs, readGap, misfit};
+ghost use mathlib.Core.List.{[]};
+ghost use lib.Dec.{eqb};
+ghost use Rattle.items.specs.Awareness.{awarenessPieces, wholeAwareness};
 ghost use Rattle.text.specs.Held.{Held};
-ghost use Rattle.text.specs.Piece.{canonical, spell};
+ghost use Rattle.text.specs.Piece.{canonical, spell, bytes};
 ghost use Rattle.text.specs.Put.{Put};
 ghost use Rattle.text.specs.Names.{isName, readRun, readName};
 ghost use Rattle.text.specs.Numbers.{readNumber, number};
 ghost use Rattle.items.specs.Item.{isTaxiway, nameAtFront};
 ghost use Rattle.items.specs.ItemText.{edgeName, ofRunway, lengthText, bankText, ofTaxiways, poorTaxiways, poorApron, itemText, itemPieces};
 ghost use Rattle.items.specs.ReadItem.{openings, openingName, sayings, saying, taxiSayings, taxiSaying, edges, readLength, readBank, readDetail, readRunwayForm, runwayItem, readTaxiway, readSomeTaxiways, readTaxiForm, isApron, readApron, apronItem, readApronForm, readForm, readBody, readItem};
-ghost use Rattle.awareness.specs.Held.{Reads, HeldItem, FrontSlot, noItem, taxiwayNames};
+ghost use Rattle.awareness.specs.Held.{Reads, HeldItem, FrontSlot, noItem, taxiwayNames, itemsAnswer};
 ghost use Rattle.awareness.specs.Named.{HeldName, inSlots, bareFound};
 use items::Item;
 use items::blank_item;
+use items::stands_behind;
 use items::valid_item;
 use runway::put_runway;
 use runway::read_runway;
@@ -30,6 +34,8 @@ use text::place;
 use text::put;
 use text::put_digits;
 use text::run;
+use text::spaces;
+use text::told_behind;
 use text::word;
 
 // An item at a place of a text, and the place behind it.
@@ -95,6 +101,8 @@ const OPENS_APRON: u32 = 4;
 const OPENS_ALL_APRONS: u32 = 5;
 
 const TAXIWAY_SIZE: usize = 3;
+
+const MOST_ITEMS: u8 = 32;
 
 const MOST_TAXIWAYS: u8 = 8;
 
@@ -536,6 +544,59 @@ fn read_item(s: &[u8], i: usize) -> ItemFound
     }
 }
 
+// ---- Reading a line
+
+fn no_items() -> ItemsRead
+    ensures { λ r. ⌜ r ≡ itemsAnswer misfit ⌝ }
+{
+    let blank = blank_item();
+    ItemsRead {
+        fits: false,
+        count: 0,
+        items: [blank; 32],
+    }
+}
+
+// The items that a line is: the first at its start, each other behind any number of spaces. The first misfit leaves none.
+pub fn read_awareness(line: &[u8]) -> ItemsRead
+    ensures { λ r. ⌜ r ≡ itemsAnswer (wholeAwareness (now (line .entry))) ⌝ }
+{
+    let blank = blank_item();
+    let mut items = [blank; 32];
+    let mut count: u8 = 0;
+    let mut behind: usize = 0;
+    let mut at: usize = 0;
+    let fits = 'items: loop {
+        if line.len() <= behind {
+            break 'items true;
+        }
+        if MOST_ITEMS <= count {
+            break 'items false;
+        }
+        let found = read_item(line, at);
+        if !found.fits {
+            break 'items false;
+        }
+        let item = found.item;
+        let follows = stands_behind(items, count as usize, item);
+        if !follows {
+            break 'items false;
+        }
+        items[count as usize] = item;
+        count += 1;
+        behind = found.next;
+        at = spaces(line, behind);
+    };
+    if fits {
+        return ItemsRead {
+            fits: true,
+            count,
+            items,
+        };
+    }
+    no_items()
+}
+
 // ---- Writing an item
 
 // 1 L, 2 R, 3 LR.
@@ -676,4 +737,34 @@ pub fn put_item(out: &mut [u8], at: usize, item: Item) -> usize
 {
     let at = put_text(out, at, item);
     put(out, at, b".")
+}
+
+// ---- Writing a line
+
+// The space before an item that stands at place `k` of the line; the first has none.
+fn put_parting(out: &mut [u8], at: usize, k: u8) -> usize
+    ensures { λ r. ⌜ Put at (pick (eqb k 0) [] (bytes " ")) (now (out .entry)) (now (out .exit)) r ⌝ }
+{
+    if k == 0 {
+        return told_behind(out, at, 0);
+    }
+    put(out, at, b" ")
+}
+
+// Puts the first `count` items, at most 32, one space between two.
+pub fn put_awareness(out: &mut [u8], at: usize, items: [Item; 32], count: u8) -> usize
+    ensures { λ r. ⌜ Put at (canonical (awarenessPieces (take count items))) (now (out .entry)) (now (out .exit)) r ⌝ }
+{
+    let mut behind = told_behind(out, at, 0);
+    let mut k: u8 = 0;
+    while k < MOST_ITEMS {
+        if count <= k {
+            return behind;
+        }
+        let item = items[k as usize];
+        let start = put_parting(out, behind, k);
+        behind = put_item(out, start, item);
+        k += 1;
+    }
+    behind
 }
