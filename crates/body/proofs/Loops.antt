@@ -135,6 +135,6 @@ module _ (rows : List Row) (n i : ℕ) where
   pub text-left : length rows ≤ i → rowsText (take i (take n rows)) ≡ rowsText (take n rows)
   text-left h = let k : length (take n rows) ≤ i = rw length-take (omega arith) in ap rowsText (take-all i (take n rows) k)
 
-pub no-text : {at r : ℕ} (b : List ℕ) → r ≡ told b (at + 0) → Put at (rowsText []) b b r
-unfolding rowsText
+-- nothing put
+pub no-text : {at r : ℕ} (b : List ℕ) → r ≡ told b (at + 0) → Put at [] b b r
 no-text b e = record { place = e; holds = refl }

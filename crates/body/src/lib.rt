@@ -5,13 +5,20 @@ ghost use mathlib.Core.Path.{_≡_};
 ghost use mathlib.Core.List.{[]};
 ghost use Prim.Native.Nat.{_<_};
 ghost use lib.ListN.{take, drop};
-ghost use Rattle.text.specs.Choice.{all};
+ghost use Rattle.text.specs.Choice.{_and_, all, isEmpty};
+ghost use Rattle.text.specs.Piece.{canonical, verbatim};
+ghost use Rattle.text.specs.Lines.{under};
 ghost use Rattle.text.specs.Put.{Put};
 ghost use Rattle.row.specs.Row.{validRow, isBlankRow};
 ghost use Rattle.row.specs.Writing.{rowText};
+ghost use Rattle.items.specs.Awareness.{awarenessPieces};
 ghost use Rattle.body.specs.Rows.{sameRunway, isAmong, newRunways, latestOf, latest, rowsOf, makeRows, validRows, rowsText};
+ghost use Rattle.body.specs.Remarks.{itemsOf, languageOf, holdsItems, holdsLanguage, languageLines, remarkLines};
 ghost use Rattle.body.specs.Held.{rowLine, stoppedAt, withRow, emptyLine, lastRow, rowStep, nextRow, noRows, rowsAnswer, RowsHeld};
 use items::Item;
+use items::put_language;
+use items::valid_items;
+use items::valid_language_bytes;
 use row::Row;
 use row::blank_row;
 use row::is_blank_row;
@@ -24,6 +31,7 @@ use text::is_closed;
 use text::place;
 use text::put;
 use text::told_behind;
+use text::zeros_from;
 
 // 1 to 8 rows, zeros past the count.
 pub struct Rows {
@@ -406,4 +414,85 @@ pub fn put_rows(out: &mut [u8], at: usize, r: Rows) -> usize
         i += 1;
     }
     behind
+}
+
+// ---- Below the rows
+
+pub fn holds_items(i: Items) -> bool
+    ensures { λ b. ⌜ b ≡ holdsItems i ⌝ }
+{
+    let items = i.items;
+    valid_items(items, i.count)
+}
+
+// No plain language, or plain language that is valid; zeros past the length.
+pub fn holds_language(l: Language) -> bool
+    ensures { λ b. ⌜ b ≡ holdsLanguage l ⌝ }
+{
+    let bytes = l.bytes;
+    if l.length == 0 {
+        return zeros_from(&bytes, 0);
+    }
+    valid_language_bytes(bytes, l.length)
+}
+
+// Neither items nor plain language.
+fn says_nothing(items: Items, language: Language) -> bool
+    ensures { λ b. ⌜ b ≡ (isEmpty (itemsOf items) and isEmpty (languageOf language)) ⌝ }
+{
+    if items.count == 0 {
+        return language.length == 0;
+    }
+    false
+}
+
+// The awareness line in the rest of the buffer from `at` on.
+fn awareness_at(out: &mut [u8], at: usize, i: Items) -> usize
+    ensures { λ n. ⌜ Put at (canonical (awarenessPieces (itemsOf i))) (now (out .entry)) (now (out .exit)) n ⌝ }
+{
+    let items = i.items;
+    let start = place(out, at);
+    let n = put_awareness(&mut out[start..], 0, items, i.count);
+    told_behind(out, at, n)
+}
+
+// The plain language in the rest of the buffer from `at` on.
+fn language_at(out: &mut [u8], at: usize, l: Language) -> usize
+    ensures { λ n. ⌜ Put at (canonical (verbatim (languageOf l))) (now (out .entry)) (now (out .exit)) n ⌝ }
+{
+    let bytes = l.bytes;
+    let start = place(out, at);
+    let n = put_language(&mut out[start..], bytes, l.length);
+    told_behind(out, at, n)
+}
+
+// The plain language under the awareness line, if there is any.
+fn language_under(out: &mut [u8], at: usize, l: Language) -> usize
+    ensures { λ n. ⌜ Put at (under (languageLines (languageOf l))) (now (out .entry)) (now (out .exit)) n ⌝ }
+{
+    if l.length == 0 {
+        return told_behind(out, at, 0);
+    }
+    let line = put(out, at, b"\n");
+    language_at(out, line, l)
+}
+
+// Puts the empty line, the awareness line and the plain language, each under the line before it.
+pub fn put_remarks(out: &mut [u8], at: usize, items: Items, language: Language) -> usize
+    ensures { λ n. ⌜ Put at (under (remarkLines (itemsOf items) (languageOf language))) (now (out .entry)) (now (out .exit)) n ⌝ }
+{
+    if says_nothing(items, language) {
+        return told_behind(out, at, 0);
+    }
+    let line = put(out, at, b"\n\n");
+    let behind = awareness_at(out, line, items);
+    language_under(out, behind, language)
+}
+
+// ---- To be taken from `awareness`
+
+fn put_awareness(out: &mut [u8], at: usize, items: [Item; 32], count: u8) -> usize
+    ensures { λ r. ⌜ Put at (canonical (awarenessPieces (take count items))) (now (out .entry)) (now (out .exit)) r ⌝ }
+{
+    at
 }

@@ -22,6 +22,7 @@ told-behind-requires : tie.Need-told-behind-requires Inv-loop μ-loop
 told-behind-requires c κs = search needs
 
 loop-holds : tie.Need-loop-holds Inv-loop μ-loop
+unfolding rowsText
 loop-holds c = let a = c .before .before .before .before .args in (search needs, refl, no-text (a .out .now) (c .told-behind .ensures))
 
 same-length : tie.Need-same-length Inv-loop μ-loop
