@@ -1,32 +1,20 @@
 -- The taxiways of an item, taken one by one into the array.
 use Prim.Native.Nat.{ℕ, zero, suc, _+_, _-_, _*_, _<_, _≤_}
-use mathlib.Core.Path.{_≡_, refl, sym, _∙_, ap}
+use mathlib.Core.Path.{_≡_, refl, _∙_}
 use mathlib.Core.List.{List, [], _∷_, _++_, map}
-use mathlib.Core.Bool.{true}
 use native.Mathlib.Omega.{arith}
-use lib.ListN.{length, drop, replicate, length-append, length-replicate}
-use lib.Seq.{sets, sets-eq}
+use lib.ListN.{length, replicate, length-append}
+use lib.Seq.{sets}
 use borrow.Author.Tests.{leb-true}
 use Rattle.text.specs.Read.{Got, misfit, got, andThen, oneMore, readAs, readGap, readMany}
 use Rattle.text.specs.Arrays.{pad, flat}
 use Rattle.text.specs.Laws.Base.{and-2, then-got, carry}
 use Rattle.text.specs.Laws.Arrays.{pad-length}
-use Rattle.text.specs.Laws.Put.{sets-join}
+use Rattle.text.specs.Laws.Put.{sets-join, over-zeros}
 use Rattle.items.specs.Item.{isTaxiway}
 use Rattle.items.specs.ReadItem.{readTaxiway, readSomeTaxiways}
 use Rattle.awareness.specs.Named.{inSlots}
 use Rattle.awareness.proofs.Named.{name-passed}
-
--- bytes stored over zeros
-drop-zeros : (k n : ℕ) → k ≤ n → drop {A = ℕ} k (replicate n 0) ≡ replicate (n - k) 0
-drop-zeros zero n h = let z : n - 0 ≡ n = omega arith in rw z
-drop-zeros (suc k) zero h = absurd (omega arith)
-drop-zeros (suc k) (suc n) h = let z : suc n - suc k ≡ n - k = omega arith in rw z (drop-zeros k n (omega arith))
-
-pub over-zeros : (n : ℕ) (l : List ℕ) → length l ≤ n → sets (replicate n 0) 0 l ≡ pad n 0 l
-over-zeros n l h =
-    let z : 0 + length l ≡ length l = omega arith in
-    sets-eq l (replicate n 0) 0 (rw length-replicate (omega arith)) ∙ ap (λ (k : List ℕ). l ++ k) (ap (λ (i : ℕ). drop {A = ℕ} i (replicate n 0)) z ∙ drop-zeros (length l) n h)
 
 -- how long taxiways are, and their slots
 short-taxiway : (m : List ℕ) {w r : List ℕ} → readGap readTaxiway m ≡ got w r → length w ≤ 3

@@ -1,21 +1,21 @@
 -- What the groups of a line decide about the whole line.
-use Prim.Native.Nat.{ℕ, zero, suc, _+_, _-_, _<_, _≤_, _^_}
+use Prim.Native.Nat.{ℕ, _-_, _<_, _≤_, _^_}
 use mathlib.Core.Path.{_≡_, refl, sym, _∙_, ap}
-use mathlib.Core.List.{List, [], _∷_, _++_, append-nil}
+use mathlib.Core.List.{List, [], _∷_, append-nil}
 use mathlib.Core.Bool.{Bool, true, false}
 use native.Mathlib.Omega.{arith}
 use lib.Dec.{eqb}
-use lib.ListN.{length, take, drop, replicate, length-drop, length-replicate, drop-of-length-le}
-use lib.Seq.{sets, sets-eq, drop-drop}
+use lib.ListN.{length, take, drop, replicate, length-drop, drop-of-length-le}
+use lib.Seq.{sets, drop-drop}
 use Rattle.text.specs.Choice.{pick}
 use Rattle.text.specs.Piece.{bytes}
 use Rattle.text.specs.Read.{misfit, got, andThen, readText, readGap, whole}
 use Rattle.text.specs.Names.{inClass, readCount}
-use Rattle.text.specs.Arrays.{pad}
 use Rattle.text.specs.Held.{Held, none, fits, readWord}
 use Rattle.text.specs.declared.Found.{Found}
 use Rattle.text.specs.Laws.Base.{no-misfit, guard-got, true-false}
 use Rattle.text.specs.Laws.Held.{held-text}
+use Rattle.text.specs.Laws.Put.{over-zeros}
 use Rattle.heading.specs.Letters.{readLetters}
 use Rattle.heading.specs.Filing.{readFilingTime, readFiling}
 use Rattle.heading.specs.Heading.{readSerial, readDesignator, readTime, makeHeading, readHeading, readSerialLine}
@@ -24,23 +24,11 @@ use Rattle.heading.specs.Laws.Letters.{letters-long}
 use Rattle.heading.specs.Laws.Heading.{designator-laws, serial-low}
 use Rattle.heading.proofs.Groups.{letters-stand, letters-off}
 
-drop-replicate : (k n : ℕ) → k ≤ n → drop k (replicate n 0) ≡ replicate {A = ℕ} (n - k) 0
-drop-replicate zero n h = let z : n - 0 ≡ n = omega arith in rw z
-drop-replicate (suc k) zero h = absurd (omega arith)
-drop-replicate (suc k) (suc n) h = let z : suc n - suc k ≡ n - k = omega arith in rw z (drop-replicate k n (omega arith))
-
--- bytes stored into an array of zeros
-pub sets-pad : (n : ℕ) (t : List ℕ) → length t ≤ n → sets (replicate n 0) 0 t ≡ pad n 0 t
-sets-pad n t h =
-    let l = length-replicate {A = ℕ} n 0 in
-    let z : 0 + length t ≡ length t = omega arith in
-    sets-eq t (replicate n 0) 0 (omega arith) ∙ rw z (ap (λ k. t ++ k) (drop-replicate (length t) n h))
-
 -- bytes stored into an array of their length are that array
 pub array-is : (n : ℕ) (t : List ℕ) → length t ≡ n → sets (replicate n 0) 0 t ≡ t
 array-is n t e =
     let z : n - length t ≡ 0 = omega arith in
-    sets-pad n t (omega arith) ∙ rw z (append-nil t)
+    over-zeros n t (omega arith) ∙ rw z (append-nil t)
 
 -- the rest of a line from a place on
 pub rest-none : (m : List ℕ) (i : ℕ) → length m ≤ i → drop i m ≡ []

@@ -13,13 +13,12 @@ use Rattle.text.specs.Read.{Got, misfit, got, guard, andThen, readText, readMan
 use Rattle.text.specs.Arrays.{flat}
 use Rattle.text.specs.Laws.Names.{all-at}
 use Rattle.text.specs.Laws.Many.{many-laws}
-use Rattle.text.specs.Laws.Put.{sets-join}
+use Rattle.text.specs.Laws.Put.{sets-join, over-zeros}
 use Rattle.heading.specs.Addresses.{priorities, makeAddresses, readPriority, readAddress, readAddresses}
 use Rattle.heading.specs.Answers.{zeros, listAnswer, addressesAnswer}
 use Rattle.heading.specs.Laws.Addresses.{priority-laws, address-laws, flat-fits}
 use Rattle.heading.specs.declared.Addresses.{Addresses}
 use Rattle.heading.specs.declared.AddressList.{AddressList}
-use Rattle.heading.proofs.Lines.{sets-pad}
 
 -- c addresses are in the array L, and those of g come behind them
 abbrev pub onto : ℕ → List ℕ → Got (List (List ℕ)) → AddressList
@@ -38,7 +37,7 @@ onto-all m = go (readMany readAddress 8 m) refl
     go (got as′ []) q =
         let v = many-laws address-laws (λ m h. tt) 8 .sound {m = m} q .0 in
         let z : 0 + length as′ ≡ length as′ = omega arith in
-        let e = sets-pad 64 (flat as′) (flat-fits as′ (v .0) (v .1)) in
+        let e = over-zeros 64 (flat as′) (flat-fits as′ (v .0) (v .1)) in
         λ i. record { count = z i; letters = e i }
     go (got as′ (x ∷ k)) q = refl
 

@@ -1,18 +1,18 @@
 -- Plain language byte by byte, and in its array.
-use Prim.Native.Nat.{ℕ, zero, suc, _+_, _-_, _<_, _≤_}
-use mathlib.Core.Path.{_≡_, refl, sym, _∙_, ap}
-use mathlib.Core.List.{List, [], _∷_, _++_}
+use Prim.Native.Nat.{ℕ, suc, _-_, _<_, _≤_}
+use mathlib.Core.Path.{_≡_, refl, _∙_}
+use mathlib.Core.List.{List, [], _∷_}
 use mathlib.Core.Bool.{Bool, true, false, not}
 use native.Mathlib.Omega.{arith}
 use lib.Dec.{eqb, leb}
-use lib.ListN.{length, drop, getD, take, replicate, length-replicate}
-use lib.Seq.{sets, sets-eq}
+use lib.ListN.{length, getD, replicate}
+use lib.Seq.{sets}
 use borrow.Author.Tests.{le-leb, eqb-true}
 use Rattle.text.specs.Choice.{pick, _and_, all, headIs}
 use Rattle.text.specs.Read.{Got, misfit, got, guard, andThen}
 use Rattle.text.specs.Names.{isPlainByte, readCount}
 use Rattle.text.specs.Held.{fits}
-use Rattle.text.specs.Arrays.{pad}
+use Rattle.text.specs.Laws.Put.{over-zeros}
 use Rattle.items.specs.Language.{lastIs, validLanguage, wholeLanguage}
 use Rattle.items.specs.Held.{languageAnswer}
 use Rattle.items.specs.Laws.Language.{language-short}
@@ -51,16 +51,6 @@ unfolding validLanguage _and_
 language-tests l h k = rw (le-leb 2 (length l) h, le-leb (length l) 400 k, all-counted isPlainByte l, first-byte (eqb 32) l (omega arith), last-byte 46 l (omega arith))
 
 -- bytes that were put over zeros
-drop-zeros : (k n : ℕ) → k ≤ n → drop {A = ℕ} k (replicate n 0) ≡ replicate (n - k) 0
-drop-zeros zero n h = let z : n - 0 ≡ n = omega arith in rw z
-drop-zeros (suc k) zero h = absurd (omega arith)
-drop-zeros (suc k) (suc n) h = let z : suc n - suc k ≡ n - k = omega arith in rw z (drop-zeros k n (omega arith))
-
-pub over-zeros : (n : ℕ) (l : List ℕ) → length l ≤ n → sets (replicate n 0) 0 l ≡ pad n 0 l
-over-zeros n l h =
-    let z : 0 + length l ≡ length l = omega arith in
-    sets-eq l (replicate n 0) 0 (rw length-replicate (omega arith)) ∙ ap (λ (k : List ℕ). l ++ k) (ap (λ (i : ℕ). drop {A = ℕ} i (replicate n 0)) z ∙ drop-zeros (length l) n h)
-
 pub language-kept : (l b : List ℕ) → validLanguage l ≡ true → b ≡ sets (replicate 400 0) 0 l → record { fits = true; length = length l; bytes = b } ≡ languageAnswer (wholeLanguage l)
 unfolding wholeLanguage
 language-kept l b v e = let q = e ∙ over-zeros 400 l (language-short l v) in rw v (λ j. record { fits = true; length = length l; bytes = q j })

@@ -1,5 +1,5 @@
 use mathlib.Core.Path.{_∙_}
-use Rattle.awareness.proofs.Slots.{over-zeros}
+use Rattle.text.specs.Laws.Put.{over-zeros}
 use borrow.Author.Needs.{needs}
 use Rattle.awareness.proofs.apron_item.Statement.{statement}
 use Rattle.awareness.proofs.apron_item.Tie as tie
