@@ -15,7 +15,7 @@ use Rattle.text.specs.Laws.Held.{part-all}
 use Rattle.items.specs.Laws.Slots.{name-named}
 use Rattle.awareness.specs.Named.{HeldName}
 use Rattle.awareness.specs.declared.NameFound.{NameFound}
-use Rattle.awareness.proofs.Writing.{run-taken}
+use Rattle.text.specs.Laws.Runs.{run-taken}
 
 -- a run of bytes from a place on
 pub run-span : (p : ℕ → Bool) (m : List ℕ) (i : ℕ) {n : ℕ} → Reached (take (length m - i) (drop i m)) (past p (take (length m - i) (drop i m))) n

@@ -1,14 +1,12 @@
 -- What the code's answers say of the readers, and of the slots of an array.
 use Prim.Native.Nat.{ℕ, _≤_}
 use mathlib.Core.Path.{_≡_}
-use mathlib.Core.List.{List, map}
+use mathlib.Core.List.{List}
 use mathlib.Core.Bool.{Bool, true, false}
-use lib.ListN.{length, take, drop, replicate}
+use lib.ListN.{length, drop, replicate}
 use Rattle.text.specs.Choice.{pick}
 use Rattle.text.specs.Read.{Got, misfit, got}
-use Rattle.text.specs.Piece.{Piece, space, verbatim, layAll, _then_}
-use Rattle.text.specs.Arrays.{pad, slots}
-use Rattle.items.specs.Item.{taxiwaySize, nameAtFront}
+use Rattle.text.specs.Arrays.{pad}
 use Rattle.items.specs.Awareness.{mostItems, blankItem}
 use Rattle.items.specs.declared.Item.{Item}
 use Rattle.awareness.specs.declared.ItemFound.{ItemFound}
@@ -27,16 +25,6 @@ pub record HeldItem (m : List ℕ) (g : Got Item) (r : ItemFound) : Type 0 where
   pub within : r .next ≤ length m
   pub says : g ≡ pick (r .fits) (got (r .item) (drop (r .next) m)) misfit
   pub blank : r ≡ pick (r .fits) r noItem
-
--- the first r bytes of f are its first slot, and the others lie behind it
-pub record FrontSlot (f : List ℕ) (r : ℕ) : Type 0 where
-  pub within : r ≤ length f
-  pub slot : take r f ≡ take taxiwaySize f
-  pub rest : drop r f ≡ drop taxiwaySize f
-
--- the names in the first n slots of an array, a space before each
-abbrev pub taxiwayNames : ℕ → List ℕ → List Piece
-taxiwayNames n f = layAll (λ w. space then verbatim w) (map nameAtFront (slots taxiwaySize n f))
 
 -- a reading of the awareness line as the code answers it: zeros past the count, and a misfit is all zero
 abbrev pub itemsAnswer : Got (List Item) → ItemsRead

@@ -1,30 +1,26 @@
-// The awareness line: its items, and the line that they make, read at its place in a message and put into a buffer.
+// The awareness line and its items, read at their place in a message.
 
+ghost use mathlib.Core.Bool.{true};
 ghost use mathlib.Core.Path.{_≡_};
 ghost use Prim.Native.Nat.{_*_, _≤_};
-ghost use mathlib.Core.Bool.{true};
-ghost use lib.ListN.{length, drop, replicate, take};
+ghost use lib.ListN.{length, drop, replicate};
 ghost use lib.Seq.{sets};
-ghost use Rattle.text.specs.Choice.{all, pick};
-ghost use Rattle.text.specs.Read.{readAs, readGap, misfit};
-ghost use mathlib.Core.List.{[]};
-ghost use lib.Dec.{eqb};
-ghost use Rattle.items.specs.Awareness.{awarenessPieces, wholeAwareness};
+ghost use Rattle.text.specs.Choice.{all};
 ghost use Rattle.text.specs.Held.{Held};
-ghost use Rattle.text.specs.Piece.{canonical, spell, bytes};
-ghost use Rattle.text.specs.Put.{Put};
 ghost use Rattle.text.specs.Names.{isName, readRun, readName};
 ghost use Rattle.text.specs.Numbers.{readNumber, number};
-ghost use Rattle.items.specs.Item.{isTaxiway, nameAtFront};
-ghost use Rattle.items.specs.ItemText.{edgeName, ofRunway, lengthText, bankText, ofTaxiways, poorTaxiways, poorApron, itemText, itemPieces};
+ghost use Rattle.text.specs.Piece.{bytes};
+ghost use Rattle.text.specs.Read.{readAs, readGap, misfit};
+ghost use Rattle.items.specs.Awareness.{wholeAwareness};
+ghost use Rattle.items.specs.Item.{isTaxiway};
+ghost use Rattle.items.specs.ItemText.{edgeName};
 ghost use Rattle.items.specs.ReadItem.{openings, openingName, sayings, saying, taxiSayings, taxiSaying, edges, readLength, readBank, readDetail, readRunwayForm, runwayItem, readTaxiway, readSomeTaxiways, readTaxiForm, isApron, readApron, apronItem, readApronForm, readForm, readBody, readItem};
-ghost use Rattle.awareness.specs.Held.{Reads, HeldItem, FrontSlot, noItem, taxiwayNames, itemsAnswer};
+ghost use Rattle.awareness.specs.Held.{Reads, HeldItem, noItem, itemsAnswer};
 ghost use Rattle.awareness.specs.Named.{HeldName, inSlots, bareFound};
 use items::Item;
 use items::blank_item;
 use items::stands_behind;
 use items::valid_item;
-use runway::put_runway;
 use runway::read_runway;
 use text::CAPITALS_AND_DIGITS;
 use text::Found;
@@ -32,17 +28,15 @@ use text::LETTERS;
 use text::digits;
 use text::place;
 use text::put;
-use text::put_digits;
 use text::run;
 use text::spaces;
-use text::told_behind;
 use text::word;
 
 // An item at a place of a text, and the place behind it.
-pub struct ItemFound {
-    pub fits: bool,
-    pub item: Item,
-    pub next: usize,
+struct ItemFound {
+    fits: bool,
+    item: Item,
+    next: usize,
 }
 
 // The items of an awareness line, zeros behind them; none where the line does not fit.
@@ -561,8 +555,8 @@ fn no_items() -> ItemsRead
 pub fn read_awareness(line: &[u8]) -> ItemsRead
     ensures { λ r. ⌜ r ≡ itemsAnswer (wholeAwareness (now (line .entry))) ⌝ }
 {
-    let blank = blank_item();
-    let mut items = [blank; 32];
+    let none = no_items();
+    let mut items = none.items;
     let mut count: u8 = 0;
     let mut behind: usize = 0;
     let mut at: usize = 0;
@@ -594,177 +588,5 @@ pub fn read_awareness(line: &[u8]) -> ItemsRead
             items,
         };
     }
-    no_items()
-}
-
-// ---- Writing an item
-
-// 1 L, 2 R, 3 LR.
-fn put_edge(out: &mut [u8], at: usize, edge: u8) -> usize
-    ensures { λ r. ⌜ Put at (canonical (spell (edgeName edge))) (now (out .entry)) (now (out .exit)) r ⌝ }
-{
-    match edge {
-        1 => put(out, at, b"L"),
-        2 => put(out, at, b"R"),
-        3 => put(out, at, b"LR"),
-        _ => put(out, at, b""),
-    }
-}
-
-// Three digits, or four from 1000 on.
-fn put_number(out: &mut [u8], at: usize, x: u16) -> usize
-    ensures { λ r. ⌜ Put at (canonical (number 3 x)) (now (out .entry)) (now (out .exit)) r ⌝ }
-{
-    if 1000 <= x {
-        return put_digits(out, at, 4, x as u32);
-    }
-    put_digits(out, at, 3, x as u32)
-}
-
-// The runway of an item, and what is said of it.
-fn put_of_runway(out: &mut [u8], at: usize, i: Item, said: &[u8]) -> usize
-    ensures { λ r. ⌜ Put at (canonical (ofRunway i (now (said .entry)))) (now (out .entry)) (now (out .exit)) r ⌝ }
-{
-    let at = put(out, at, b"RWY ");
-    let at = put_runway(out, at, i.number, i.side);
-    put(out, at, said)
-}
-
-// Item I.
-fn put_length(out: &mut [u8], at: usize, i: Item) -> usize
-    ensures { λ r. ⌜ Put at (canonical (lengthText i)) (now (out .entry)) (now (out .exit)) r ⌝ }
-{
-    let at = put_of_runway(out, at, i, b" REDUCED TO ");
-    put_number(out, at, i.amount)
-}
-
-// Item M.
-fn put_bank(out: &mut [u8], at: usize, i: Item) -> usize
-    ensures { λ r. ⌜ Put at (canonical (bankText i)) (now (out .entry)) (now (out .exit)) r ⌝ }
-{
-    let at = put_of_runway(out, at, i, b" SNOWBANK ");
-    let at = put_edge(out, at, i.edge);
-    let at = put_digits(out, at, 2, i.amount as u32);
-    put(out, at, b" FM CL")
-}
-
-// How many bytes the slot at the front of `t` has: three, or all that are left.
-fn slot_end(t: &[u8]) -> usize
-    ensures { λ r. ⌜ FrontSlot (now (t .entry)) r ⌝ }
-{
-    if t.len() < TAXIWAY_SIZE {
-        return t.len();
-    }
-    TAXIWAY_SIZE
-}
-
-// The name at the front of `f`.
-fn put_name(out: &mut [u8], at: usize, f: &[u8]) -> usize
-    ensures { λ r. ⌜ Put at (nameAtFront (now (f .entry))) (now (out .entry)) (now (out .exit)) r ⌝ }
-{
-    let n = run(f, 0, CAPITALS_AND_DIGITS);
-    put(out, at, &f[..n])
-}
-
-// The names in the first `n` slots of `t`, a space before each.
-fn put_taxiways(out: &mut [u8], at: usize, t: &[u8], n: u8) -> usize
-    ensures { λ r. ⌜ Put at (canonical (taxiwayNames n (now (t .entry)))) (now (out .entry)) (now (out .exit)) r ⌝ }
-{
-    if n == 0 {
-        return put(out, at, b"");
-    }
-    let end = slot_end(t);
-    let at = put(out, at, b" ");
-    let at = put_name(out, at, &t[..end]);
-    put_taxiways(out, at, &t[end..], n - 1)
-}
-
-// The taxiways of an item, and what is said of them.
-fn put_of_taxiways(out: &mut [u8], at: usize, i: Item, said: &[u8]) -> usize
-    ensures { λ r. ⌜ Put at (canonical (ofTaxiways i (now (said .entry)))) (now (out .entry)) (now (out .exit)) r ⌝ }
-{
-    let t = i.taxiways;
-    let at = put(out, at, b"TWY");
-    let at = put_taxiways(out, at, &t, i.count);
-    put(out, at, said)
-}
-
-// Item P.
-fn put_poor_taxiways(out: &mut [u8], at: usize, i: Item) -> usize
-    ensures { λ r. ⌜ Put at (canonical (poorTaxiways i)) (now (out .entry)) (now (out .exit)) r ⌝ }
-{
-    if i.count == 0 {
-        return put(out, at, b"ALL TWY POOR");
-    }
-    put_of_taxiways(out, at, i, b" POOR")
-}
-
-// Item R.
-fn put_poor_apron(out: &mut [u8], at: usize, i: Item) -> usize
-    ensures { λ r. ⌜ Put at (canonical (poorApron i)) (now (out .entry)) (now (out .exit)) r ⌝ }
-{
-    let name = i.name;
-    let n = run(&name, 0, CAPITALS_AND_DIGITS);
-    if n == 0 {
-        return put(out, at, b"ALL APRON POOR");
-    }
-    let at = put(out, at, b"APRON ");
-    let at = put_name(out, at, &name);
-    put(out, at, b" POOR")
-}
-
-// An item without its full stop.
-fn put_text(out: &mut [u8], at: usize, i: Item) -> usize
-    ensures { λ r. ⌜ Put at (canonical (itemText i)) (now (out .entry)) (now (out .exit)) r ⌝ }
-{
-    let letter = i.letter;
-    match letter {
-        b'I' => put_length(out, at, i),
-        b'J' => put(out, at, b"DRIFTING SNOW"),
-        b'K' => put_of_runway(out, at, i, b" LOOSE SAND"),
-        b'L' => put_of_runway(out, at, i, b" CHEMICALLY TREATED"),
-        b'M' => put_bank(out, at, i),
-        b'N' => put_of_taxiways(out, at, i, b" SNOWBANK"),
-        b'O' => put_of_runway(out, at, i, b" ADJ SNOWBANK"),
-        b'P' => put_poor_taxiways(out, at, i),
-        _ => put_poor_apron(out, at, i),
-    }
-}
-
-// An item, ended by a full stop.
-pub fn put_item(out: &mut [u8], at: usize, item: Item) -> usize
-    ensures { λ r. ⌜ Put at (canonical (itemPieces item)) (now (out .entry)) (now (out .exit)) r ⌝ }
-{
-    let at = put_text(out, at, item);
-    put(out, at, b".")
-}
-
-// ---- Writing a line
-
-// The space before an item that stands at place `k` of the line; the first has none.
-fn put_parting(out: &mut [u8], at: usize, k: u8) -> usize
-    ensures { λ r. ⌜ Put at (pick (eqb k 0) [] (bytes " ")) (now (out .entry)) (now (out .exit)) r ⌝ }
-{
-    if k == 0 {
-        return told_behind(out, at, 0);
-    }
-    put(out, at, b" ")
-}
-
-// Puts the first `count` items, at most 32, one space between two.
-pub fn put_awareness(out: &mut [u8], at: usize, items: [Item; 32], count: u8) -> usize
-    ensures { λ r. ⌜ Put at (canonical (awarenessPieces (take count items))) (now (out .entry)) (now (out .exit)) r ⌝ }
-{
-    let mut behind = told_behind(out, at, 0);
-    let mut k: u8 = 0;
-    while k < MOST_ITEMS {
-        if count <= k {
-            return behind;
-        }
-        let item = items[k as usize];
-        let start = put_parting(out, behind, k);
-        behind = put_item(out, start, item);
-        k += 1;
-    }
-    behind
+    none
 }

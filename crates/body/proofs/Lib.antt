@@ -1,4 +1,2 @@
 pub mod Loops
 pub mod Steps
-pub mod Remarks
-pub mod ReadRemarks

@@ -7,9 +7,8 @@ use lib.ListN.{length, take, drop, getD, length-take, drop-of-length-le}
 use lib.Seq.{drop-cons, getD-take, take-suc, take-all}
 use native.Mathlib.Numerals.{add-one}
 use native.Mathlib.Omega.{arith}
-use Rattle.text.specs.Choice.{pick, _and_, all}
+use Rattle.text.specs.Choice.{_and_, all}
 use Rattle.text.specs.Lines.{closed}
-use Rattle.text.specs.Put.{Put, told}
 use Rattle.text.specs.Laws.Base.{true-false}
 use Rattle.row.specs.declared.Row.{Row}
 use Rattle.row.specs.Writing.{rowText}
@@ -134,7 +133,3 @@ module _ (rows : List Row) (n i : ℕ) where
 
   pub text-left : length rows ≤ i → rowsText (take i (take n rows)) ≡ rowsText (take n rows)
   text-left h = let k : length (take n rows) ≤ i = rw length-take (omega arith) in ap rowsText (take-all i (take n rows) k)
-
--- nothing put
-pub no-text : {at r : ℕ} (b : List ℕ) → r ≡ told b (at + 0) → Put at [] b b r
-no-text b e = record { place = e; holds = refl }

@@ -2,57 +2,28 @@
 use Prim.Native.Nat.{ℕ, zero, suc, _+_, _-_, _<_, _≤_}
 use mathlib.Core.Path.{_≡_, refl, sym, subst, _∙_, ap}
 use mathlib.Core.List.{List, [], _∷_, _++_, append-assoc}
-use mathlib.Core.Bool.{Bool, true, false, _&&_}
+use mathlib.Core.Bool.{Bool, true, false}
 use native.Mathlib.Numerals.{add-one}
 use native.Mathlib.Omega.{arith}
 use lib.Dec.{eqb, leb, ltb}
 use lib.ListN.{length, take, drop, set, replicate, length-append, length-drop, drop-of-length-le}
 use lib.Seq.{drop-cons, drop-drop, set-append-seam}
-use borrow.Author.Tests.{eqb-true, eqb-false, ne-eqb, eq-eqb, leb-true, leb-false, ltb-true, ltb-false}
-use Rattle.text.specs.Choice.{pick, headIs, isEmpty}
+use borrow.Author.Tests.{eqb-true, ne-eqb, eq-eqb, leb-true, leb-false, ltb-true, ltb-false}
+use Rattle.text.specs.Choice.{pick, isEmpty}
 use Rattle.text.specs.Read.{Got, misfit, got}
-use Rattle.text.specs.Lines.{lines, isReturn, endSize, lineSize, lineStep, closed, opened}
-use Rattle.text.specs.Arrays.{pad}
+use Rattle.text.specs.Lines.{lines, lineSize, lineStep, closed, opened}
 use Rattle.text.specs.Laws.Base.{true-false}
 use Rattle.text.specs.Laws.Arrays.{take-front}
 use Rattle.text.specs.Laws.Held.{part-all}
-use Rattle.text.specs.Laws.Lines.{lines-first}
+use Rattle.text.specs.Laws.Lines.{line-within, lines-first}
 use Rattle.row.specs.declared.Row.{Row}
 use Rattle.row.specs.Row.{blankRow}
 use Rattle.row.specs.Reading.{wholeRow, answer}
 use Rattle.body.specs.declared.Rows.{Rows}
-use Rattle.body.specs.declared.RowLine.{RowLine}
 use Rattle.body.specs.declared.RowsStep.{RowsStep}
-use Rattle.body.specs.declared.RowsRead.{RowsRead}
-use Rattle.body.specs.Out.{Out, refuse, taken, fit, atEnd}
-use Rattle.body.specs.Rows.{mostRows, rowsOf, makeRows, isAmong, finished, more, Block, block, readRows}
+use Rattle.body.specs.Out.{refuse, taken, fit, atEnd}
+use Rattle.body.specs.Rows.{mostRows, rowsOf, makeRows, isAmong, finished, more, block, readRows}
 use Rattle.body.specs.Held.{linesSize, rowLine, Kept, rowsFrom, outcome, stoppedAt, endedAt, grownTo, withRow, emptyLine, lastRow, rowStep, nextRow, noRows, rowsAnswer, RowsHeld}
-
--- a line and its end stand within the message
-pub line-within : (m : List ℕ) → lineStep m ≤ length m
-unfolding lineStep endSize
-line-within [] = omega arith
-line-within (x ∷ []) = go (eqb x 10) (eqb x 13)
-  where
-    go : (a b : Bool) → pick (eqb (pick a 1 (pick (b && false) 2 0)) 0) 1 (pick a 1 (pick (b && false) 2 0)) ≤ 1
-    go true b = omega arith
-    go false true = omega arith
-    go false false = omega arith
-line-within (x ∷ y ∷ m) = go (eqb x 10) (isReturn x (y ∷ m)) (lineStep (y ∷ m)) (line-within (y ∷ m))
-  where
-    go : (a b : Bool) (n : ℕ) → n ≤ suc (length m) → pick (eqb (pick a 1 (pick b 2 0)) 0) (suc n) (pick a 1 (pick b 2 0)) ≤ suc (suc (length m))
-    go true b n h = omega arith
-    go false true n h = omega arith
-    go false false n h = omega arith
-
-pub size-within : (m : List ℕ) → lineSize m ≤ length m
-unfolding lineSize
-size-within [] = omega arith
-size-within (x ∷ m) = go (eqb (endSize (x ∷ m)) 0) (size-within m)
-  where
-    go : (b : Bool) → lineSize m ≤ length m → pick b (suc (lineSize m)) 0 ≤ suc (length m)
-    go true h = omega arith
-    go false h = omega arith
 
 -- the rows that are kept, and one more
 kept-count : (r : Rows) → Kept r → length (rowsOf r) ≡ r .count

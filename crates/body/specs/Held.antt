@@ -1,7 +1,7 @@
 -- What the code's answers say of the readers.
 use Prim.Native.Nat.{ℕ, zero, suc, _+_, _-_, _≤_}
 use mathlib.Core.Path.{_≡_}
-use mathlib.Core.List.{List, [], _∷_, _++_}
+use mathlib.Core.List.{List, []}
 use mathlib.Core.Bool.{Bool, true, false}
 use lib.Dec.{eqb, leb, ltb}
 use lib.ListN.{length, take, drop, set}
@@ -9,20 +9,12 @@ use Rattle.text.specs.Choice.{pick}
 use Rattle.text.specs.Lines.{lines, lineSize, lineStep, closed, opened}
 use Rattle.row.specs.declared.Row.{Row}
 use Rattle.row.specs.Reading.{wholeRow, answer}
-use Rattle.items.specs.declared.LanguageRead.{LanguageRead}
-use Rattle.items.specs.Language.{wholeLanguage}
-use Rattle.items.specs.Held.{languageAnswer}
-use Rattle.awareness.specs.declared.ItemsRead.{ItemsRead}
-use Rattle.body.specs.declared.Items.{Items}
-use Rattle.body.specs.declared.Language.{Language}
 use Rattle.body.specs.declared.Rows.{Rows}
 use Rattle.body.specs.declared.RowLine.{RowLine}
 use Rattle.body.specs.declared.RowsStep.{RowsStep}
 use Rattle.body.specs.declared.RowsRead.{RowsRead}
-use Rattle.body.specs.declared.RemarksRead.{RemarksRead}
 use Rattle.body.specs.Out.{Out, refuse, taken}
-use Rattle.body.specs.Rows.{mostRows, rowsOf, makeRows, After, finished, more, Block, block, isAmong, readRows}
-use Rattle.body.specs.Remarks.{makeItems, makeLanguage, Remarks}
+use Rattle.body.specs.Rows.{mostRows, rowsOf, makeRows, finished, more, Block, block, isAmong, readRows}
 
 -- the bytes of the first n lines of a message, with their ends
 unfoldable pub linesSize : ℕ → List ℕ → ℕ
@@ -93,35 +85,3 @@ pub record RowsHeld (m : List ℕ) (r : RowsRead) : Type 0 where
   pub says : readRows mostRows [] (lines m) ≡ outcome m (r .refusal) (r .rows) (r .closed) (r .next)
   pub place : r .next ≡ pick (eqb (r .refusal) 0) (pick (r .closed) 0 (linesSize (suc (r .rows .count)) m)) 0
   pub blank : r ≡ pick (eqb (r .refusal) 0) r (noRows (r .refusal))
-
--- what stands below the rows; a refused reading is blank
-abbrev pub noRemarks : ℕ → RemarksRead
-noRemarks n = record { refusal = n; items = makeItems []; language = makeLanguage [] }
-
-abbrev pub remarksAnswer : Out Remarks → RemarksRead
-remarksAnswer (refuse n) = noRemarks n
-remarksAnswer (taken x) = record { refusal = 0; items = makeItems (x .items); language = makeLanguage (x .language) }
-
--- behind the line that `)` closes: "bytes after the end"
-unfoldable pub ending : Items → Language → ℕ → RemarksRead
-ending i l left = pick (eqb left 0) (record { refusal = 0; items = i; language = l }) (noRemarks 4)
-
--- the awareness line is the last: 8 where it is "empty before `)`"
-unfoldable pub lastItems : Items → ℕ → RemarksRead
-lastItems i left = pick (eqb (i .count) 0) (noRemarks 8) (ending i (makeLanguage []) left)
-
-unfoldable pub lastLanguage : Items → LanguageRead → ℕ → RemarksRead
-lastLanguage i r left = pick (r .fits) (ending i (record { length = r .length; bytes = r .bytes }) left) (noRemarks 9)
-
--- the line of plain language: 4 where it is missing, and "at once" where it lacks `)`
-unfoldable pub nextLanguage : Items → List ℕ → RemarksRead
-nextLanguage i m =
-    pick (eqb (length m) 0) (noRemarks 4)
-    (pick (closed (take (lineSize m) m)) (lastLanguage i (languageAnswer (wholeLanguage (opened (take (lineSize m) m)))) (length m - lineStep m)) (noRemarks 4))
-
--- the awareness line, whether `)` closes it, and what is left behind it
-unfoldable pub itemsStep : ItemsRead → Bool → List ℕ → RemarksRead
-itemsStep r c rest =
-    pick (r .fits)
-    (pick c (lastItems (record { count = r .count; items = r .items }) (length rest)) (nextLanguage (record { count = r .count; items = r .items }) rest))
-    (noRemarks 8)

@@ -1,29 +1,18 @@
-// The rows of a notice, and what stands below them: items and plain language.
+// The rows of a notice; and what stands below them, items and plain language, as a record holds them.
 // Lines are read at their place in the message; each writer of a line gets the rest of the buffer.
 
 ghost use mathlib.Core.Path.{_≡_};
 ghost use mathlib.Core.List.{[]};
 ghost use Prim.Native.Nat.{_<_};
 ghost use lib.ListN.{length, take, drop};
-ghost use Rattle.text.specs.Choice.{_and_, all, isEmpty};
-ghost use Rattle.text.specs.Piece.{canonical, verbatim};
-ghost use Rattle.text.specs.Lines.{lines, opened, under};
+ghost use Rattle.text.specs.Choice.{_and_, all};
+ghost use Rattle.text.specs.Lines.{lines, under};
 ghost use Rattle.text.specs.Put.{Put};
 ghost use Rattle.row.specs.Row.{validRow, isBlankRow};
 ghost use Rattle.row.specs.Writing.{rowText};
-ghost use Rattle.items.specs.Awareness.{awarenessPieces, wholeAwareness};
-ghost use Rattle.awareness.specs.Held.{itemsAnswer};
 ghost use Rattle.body.specs.Rows.{sameRunway, isAmong, newRunways, latestOf, latest, rowsOf, makeRows, validRows, rowsText, more};
-ghost use Rattle.body.specs.Remarks.{itemsOf, languageOf, holdsItems, makeItems, makeLanguage, holdsLanguage, languageLines, remarkLines, readRemarks};
-ghost use Rattle.body.specs.Held.{rowLine, stoppedAt, withRow, emptyLine, lastRow, rowStep, nextRow, noRows, rowsAnswer, RowsHeld, noRemarks, remarksAnswer, ending, lastItems, lastLanguage, nextLanguage, itemsStep};
-use awareness::ItemsRead;
+ghost use Rattle.body.specs.Held.{rowLine, stoppedAt, withRow, emptyLine, lastRow, rowStep, nextRow, noRows, rowsAnswer, RowsHeld};
 use items::Item;
-use items::LanguageRead;
-use items::blank_item;
-use items::put_language;
-use items::read_language;
-use items::valid_items;
-use items::valid_language_bytes;
 use row::Row;
 use row::blank_row;
 use row::is_blank_row;
@@ -36,7 +25,6 @@ use text::is_closed;
 use text::place;
 use text::put;
 use text::told_behind;
-use text::zeros_from;
 
 // 1 to 8 rows, zeros past the count.
 pub struct Rows {
@@ -419,235 +407,4 @@ pub fn put_rows(out: &mut [u8], at: usize, r: Rows) -> usize
         i += 1;
     }
     behind
-}
-
-// ---- Below the rows
-
-pub fn holds_items(i: Items) -> bool
-    ensures { λ b. ⌜ b ≡ holdsItems i ⌝ }
-{
-    let items = i.items;
-    valid_items(items, i.count)
-}
-
-// No plain language, or plain language that is valid; zeros past the length.
-pub fn holds_language(l: Language) -> bool
-    ensures { λ b. ⌜ b ≡ holdsLanguage l ⌝ }
-{
-    let bytes = l.bytes;
-    if l.length == 0 {
-        return zeros_from(&bytes, 0);
-    }
-    valid_language_bytes(bytes, l.length)
-}
-
-// Neither items nor plain language.
-fn says_nothing(items: Items, language: Language) -> bool
-    ensures { λ b. ⌜ b ≡ (isEmpty (itemsOf items) and isEmpty (languageOf language)) ⌝ }
-{
-    if items.count == 0 {
-        return language.length == 0;
-    }
-    false
-}
-
-// The awareness line in the rest of the buffer from `at` on.
-fn awareness_at(out: &mut [u8], at: usize, i: Items) -> usize
-    ensures { λ n. ⌜ Put at (canonical (awarenessPieces (itemsOf i))) (now (out .entry)) (now (out .exit)) n ⌝ }
-{
-    let items = i.items;
-    let start = place(out, at);
-    let n = put_awareness(&mut out[start..], 0, items, i.count);
-    told_behind(out, at, n)
-}
-
-// The plain language in the rest of the buffer from `at` on.
-fn language_at(out: &mut [u8], at: usize, l: Language) -> usize
-    ensures { λ n. ⌜ Put at (canonical (verbatim (languageOf l))) (now (out .entry)) (now (out .exit)) n ⌝ }
-{
-    let bytes = l.bytes;
-    let start = place(out, at);
-    let n = put_language(&mut out[start..], bytes, l.length);
-    told_behind(out, at, n)
-}
-
-// The plain language under the awareness line, if there is any.
-fn language_under(out: &mut [u8], at: usize, l: Language) -> usize
-    ensures { λ n. ⌜ Put at (under (languageLines (languageOf l))) (now (out .entry)) (now (out .exit)) n ⌝ }
-{
-    if l.length == 0 {
-        return told_behind(out, at, 0);
-    }
-    let line = put(out, at, b"\n");
-    language_at(out, line, l)
-}
-
-// Puts the empty line, the awareness line and the plain language, each under the line before it.
-pub fn put_remarks(out: &mut [u8], at: usize, items: Items, language: Language) -> usize
-    ensures { λ n. ⌜ Put at (under (remarkLines (itemsOf items) (languageOf language))) (now (out .entry)) (now (out .exit)) n ⌝ }
-{
-    if says_nothing(items, language) {
-        return told_behind(out, at, 0);
-    }
-    let line = put(out, at, b"\n\n");
-    let behind = awareness_at(out, line, items);
-    language_under(out, behind, language)
-}
-
-// The items and the plain language below the rows. A refused reading is blank.
-pub struct RemarksRead {
-    pub refusal: u8,
-    pub items: Items,
-    pub language: Language,
-}
-
-// How many bytes of a line stand before the `)` that closes it.
-fn text_size(line: &[u8]) -> usize
-    ensures { λ n. ⌜ n ≡ length (opened (now (line .entry))) ⌝ }
-{
-    let n = line.len();
-    if is_closed(line) {
-        return n - 1;
-    }
-    n
-}
-
-fn blank_items() -> Items
-    ensures { λ i. ⌜ i ≡ makeItems [] ⌝ }
-{
-    let i = blank_item();
-    Items {
-        count: 0,
-        items: [i; 32],
-    }
-}
-
-fn blank_language() -> Language
-    ensures { λ l. ⌜ l ≡ makeLanguage [] ⌝ }
-{
-    Language {
-        length: 0,
-        bytes: [0; 400],
-    }
-}
-
-fn no_remarks(refusal: u8) -> RemarksRead
-    ensures { λ r. ⌜ r ≡ noRemarks refusal ⌝ }
-{
-    let items = blank_items();
-    let language = blank_language();
-    RemarksRead {
-        refusal,
-        items,
-        language,
-    }
-}
-
-// Behind the line that `)` closes: 4 where bytes are left.
-fn ending(items: Items, language: Language, left: usize) -> RemarksRead
-    ensures { λ r. ⌜ r ≡ ending items language left ⌝ }
-{
-    if left == 0 {
-        return RemarksRead {
-            refusal: 0,
-            items,
-            language,
-        };
-    }
-    no_remarks(4)
-}
-
-// An awareness line that `)` closes is the last: 8 where it is empty.
-fn last_items(items: Items, left: usize) -> RemarksRead
-    ensures { λ r. ⌜ r ≡ lastItems items left ⌝ }
-{
-    if items.count == 0 {
-        return no_remarks(8);
-    }
-    let language = blank_language();
-    ending(items, language, left)
-}
-
-// Plain language that `)` closes: 9 where it does not fit.
-fn last_language(items: Items, read: LanguageRead, left: usize) -> RemarksRead
-    ensures { λ r. ⌜ r ≡ lastLanguage items read left ⌝ }
-{
-    if read.fits {
-        let bytes = read.bytes;
-        let language = Language {
-            length: read.length,
-            bytes,
-        };
-        return ending(items, language, left);
-    }
-    no_remarks(9)
-}
-
-// The line of plain language at the front of `m`: 4 where it is missing, and at once where it lacks `)`.
-fn next_language(items: Items, m: &[u8]) -> RemarksRead
-    ensures { λ r. ⌜ r ≡ nextLanguage items (now (m .entry)) ⌝ }
-{
-    if m.len() == 0 {
-        return no_remarks(4);
-    }
-    let line = first_line(m);
-    let size = line.size;
-    let text = text_size(&m[..size]);
-    if text < size {
-        let read = read_language(&m[..text]);
-        return last_language(items, read, m.len() - line.next);
-    }
-    no_remarks(4)
-}
-
-// The awareness line as it was read, with `rest` behind it: 8 where it does not fit.
-fn items_step(read: ItemsRead, closed: bool, rest: &[u8]) -> RemarksRead
-    ensures { λ r. ⌜ r ≡ itemsStep read closed (now (rest .entry)) ⌝ }
-{
-    if read.fits {
-        let held = read.items;
-        let items = Items {
-            count: read.count,
-            items: held,
-        };
-        if closed {
-            return last_items(items, rest.len());
-        }
-        return next_language(items, rest);
-    }
-    no_remarks(8)
-}
-
-// What stands below the empty line that ended the rows, line by line.
-pub fn read_remarks(m: &[u8]) -> RemarksRead
-    ensures { λ r. ⌜ r ≡ remarksAnswer (readRemarks (more (lines (now (m .entry))))) ⌝ }
-{
-    if m.len() == 0 {
-        return no_remarks(4);
-    }
-    let line = first_line(m);
-    let size = line.size;
-    let next = line.next;
-    let text = text_size(&m[..size]);
-    let read = read_awareness(&m[..text]);
-    items_step(read, text < size, &m[next..])
-}
-
-// ---- To be taken from `awareness`
-
-fn put_awareness(out: &mut [u8], at: usize, items: [Item; 32], count: u8) -> usize
-    ensures { λ r. ⌜ Put at (canonical (awarenessPieces (take count items))) (now (out .entry)) (now (out .exit)) r ⌝ }
-{
-    at
-}
-
-fn read_awareness(line: &[u8]) -> ItemsRead
-    ensures { λ r. ⌜ r ≡ itemsAnswer (wholeAwareness (now (line .entry))) ⌝ }
-{
-    let i = blank_item();
-    ItemsRead {
-        fits: false,
-        count: line.len() as u8,
-        items: [i; 32],
-    }
 }

@@ -1,19 +1,18 @@
 -- What is below the front: the rows, the remarks, and whether the lines agree.
-use Prim.Native.Nat.{ℕ, _-_, _<_, _≤_}
-use mathlib.Core.Path.{_≡_, refl, sym, subst, _∙_, ap}
-use mathlib.Core.List.{List, []}
+use Prim.Native.Nat.{ℕ, _<_, _≤_}
+use mathlib.Core.Path.{_≡_, refl, ap}
+use mathlib.Core.List.{List}
 use mathlib.Core.Bool.{Bool, true, false}
 use native.Mathlib.Omega.{arith}
-use lib.Dec.{eqb, leb}
-use lib.ListN.{length, take, drop}
-use borrow.Author.Tests.{eq-eqb, ne-eqb, le-leb, lt-leb}
+use lib.Dec.{eqb}
+use lib.ListN.{length, drop}
+use borrow.Author.Tests.{ne-eqb, le-leb, lt-leb}
 use Rattle.text.specs.Choice.{pick, sameBytes}
 use Rattle.text.specs.Lines.{lines}
-use Rattle.text.specs.Laws.Held.{part-all}
 use Rattle.body.specs.declared.Rows.{Rows}
 use Rattle.body.specs.declared.RowsRead.{RowsRead}
 use Rattle.body.specs.Out.{Out, refuse, taken, next}
-use Rattle.body.specs.Rows.{mostRows, rowsOf, makeRows, latest, After, finished, more, Block, readRows}
+use Rattle.body.specs.Rows.{rowsOf, makeRows, latest, After, finished, more}
 use Rattle.body.specs.Remarks.{Remarks, readRemarks}
 use Rattle.body.specs.Held.{RowsHeld}
 use Rattle.body.specs.Laws.Out.{Numbered}
@@ -21,11 +20,11 @@ use Rattle.body.specs.Laws.Remarks.{remarks-numbered}
 use Rattle.notice.specs.declared.Front.{Front}
 use Rattle.notice.specs.declared.FrontRead.{FrontRead}
 use Rattle.notice.specs.declared.Record.{Record}
-use Rattle.notice.specs.declared.Reading.{Reading}
 use Rattle.notice.specs.Record.{makeRecord}
-use Rattle.notice.specs.Reading.{agreeing, readNotice, accepted, refused, result, longest, reading}
-use Rattle.notice.specs.Front.{headingOf, frontCount, blankFront, fillLines, readBelow, FrontHeld}
-use Rattle.notice.specs.Below.{agreement, judged, recordOf, remarksAnswer}
+use Rattle.notice.specs.Reading.{agreeing, accepted, refused, result, longest, reading}
+use Rattle.notice.specs.Front.{headingOf, readBelow, FrontHeld}
+use Rattle.remarks.specs.Held.{remarksAnswer}
+use Rattle.notice.specs.Below.{agreement, judged, recordOf}
 use Rattle.notice.specs.Laws.Front.{front-is}
 
 -- the record of a front, rows and remarks, if its lines agree

@@ -24,12 +24,11 @@ use Rattle.heading.specs.declared.HeadingRead.{HeadingRead}
 use Rattle.heading.specs.declared.AerodromeRead.{AerodromeRead}
 use Rattle.heading.specs.Heading.{Heading}
 use Rattle.heading.specs.Answers.{addressesAnswer, filingAnswer, headingAnswer, aerodromeAnswer}
-use Rattle.body.specs.Out.{Out, refuse, taken, next, fit}
-use Rattle.notice.proofs.Within.{line-within}
+use Rattle.body.specs.Out.{refuse, taken, next, fit}
+use Rattle.text.specs.Laws.Lines.{line-within}
 use Rattle.notice.specs.declared.Front.{Front}
 use Rattle.notice.specs.declared.LineInto.{LineInto}
 use Rattle.notice.specs.declared.FrontStep.{FrontStep}
-use Rattle.notice.specs.declared.FrontRead.{FrontRead}
 use Rattle.notice.specs.Front.{frontCount, blankFront, fillLine, lineRefusal, nextLine, fillLines, Filled, Stepped, FrontHeld}
 
 -- what a line's answer stands for

@@ -1,13 +1,10 @@
 -- What is read below the front, as the code answers it.
 use Prim.Native.Nat.{ℕ}
-use mathlib.Core.List.{List, []}
 use lib.Dec.{eqb}
 use Rattle.text.specs.Choice.{pick, sameBytes}
 use Rattle.body.specs.declared.Rows.{Rows}
 use Rattle.body.specs.Rows.{rowsOf, latest}
-use Rattle.body.specs.Out.{Out, refuse, taken}
-use Rattle.body.specs.Remarks.{Remarks, makeItems, makeLanguage}
-use Rattle.notice.specs.declared.RemarksRead.{RemarksRead}
+use Rattle.remarks.specs.declared.RemarksRead.{RemarksRead}
 use Rattle.notice.specs.declared.Front.{Front}
 use Rattle.notice.specs.declared.Reading.{Reading}
 use Rattle.notice.specs.declared.Record.{Record}
@@ -28,8 +25,3 @@ recordOf f r x = record { addresses = f .addresses; filing = f .filing; title = 
 -- the answer to a message whose front and rows are read, and whose remarks gave this answer
 unfoldable pub judged : Front → Rows → RemarksRead → Reading
 judged f r x = pick (eqb (x .refusal) 0) (pick (eqb (agreement f r) 0) (accepted (recordOf f r x)) (refused (agreement f r))) (refused (x .refusal))
-
--- TEMP
-abbrev pub remarksAnswer : Out Remarks → RemarksRead
-remarksAnswer (refuse n) = record { refusal = n; items = makeItems []; language = makeLanguage [] }
-remarksAnswer (taken x) = record { refusal = 0; items = makeItems (x .items); language = makeLanguage (x .language) }

@@ -4,3 +4,4 @@ pub mod Size
 pub mod Reading
 pub mod Front
 pub mod Text
+pub mod Same

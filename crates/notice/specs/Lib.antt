@@ -3,6 +3,7 @@ pub mod Record
 pub mod Notice
 pub mod Reading
 pub mod Writing
+pub mod Same
 pub mod Front
 pub mod Below
 pub mod Laws

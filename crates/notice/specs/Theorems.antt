@@ -21,6 +21,7 @@ use Rattle.notice.specs.Record.{validRecord, blankRecord}
 use Rattle.notice.specs.Notice.{noticeLines, notice, noticeText}
 use Rattle.notice.specs.Reading.{readNotice, accepted, refused, result, reading}
 use Rattle.notice.specs.Writing.{Wrote}
+use Rattle.notice.specs.Same.{TellSame, SaysSame}
 use Rattle.notice.specs.Laws.Parts.{made, partLines, partsOf, lines-are, parts-kept, good-valid, valid-good, made-back}
 use Rattle.notice.specs.Laws.Lines.{notice-sound, notice-complete, notice-numbered, lines-inline}
 use Rattle.notice.specs.Laws.Size.{text-fits}
@@ -108,3 +109,31 @@ refusal-range m = go (leb (length m) 4096)
 -- writing's promise leaves no choice
 pub wrote-one : {r : Record} {b x y : List ℕ} {v w : Written} → Wrote r b x v → Wrote r b y w → (v ≡ w) × (x ≡ y)
 wrote-one p q = (p .answer ∙ sym (q .answer), p .holds ∙ sym (q .holds))
+
+-- two messages are typings of one valid record's notice, of at most 4,096 bytes each
+pub record OneNotice (a b : List ℕ) : Type 0 where
+  pub tells : Record
+  pub valid : validRecord tells ≡ true
+  pub one : Typing (notice tells) a × (length a ≤ 4096)
+  pub other : Typing (notice tells) b × (length b ≤ 4096)
+
+-- they tell the same exactly then
+pub same-exactly : (a b : List ℕ) → TellSame a b ↔ OneNotice a b
+same-exactly a b = (
+  λ t.
+    let x = sound a (t .tells) (t .one) in
+    let y = sound b (t .tells) (t .other) in
+    record { tells = t .tells; valid = x .0; one = x .1; other = y .1 },
+  λ n. record {
+    tells = n .tells;
+    one = complete a (n .tells) (n .valid) (n .one .0) (n .one .1);
+    other = complete b (n .tells) (n .valid) (n .other .0) (n .other .1);
+  },
+)
+
+-- the promise of the sameness check leaves no choice
+pub says-one : {a b : List ℕ} (r s : Bool) → SaysSame a b r → SaysSame a b s → r ≡ s
+says-one true true p q = refl
+says-one true false p q = sym (q .1 (p .0 refl))
+says-one false true p q = p .1 (q .0 refl)
+says-one false false p q = refl

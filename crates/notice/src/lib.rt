@@ -1,7 +1,7 @@
 // A notice: the record of a message, its reading and its writing.
 
 ghost use mathlib.Core.Path.{_≡_};
-ghost use mathlib.Core.List.{[], _∷_};
+ghost use mathlib.Core.List.{_∷_};
 ghost use mathlib.Core.Bool.{true};
 ghost use lib.Dec.{leb};
 ghost use lib.ListN.{length, drop};
@@ -13,14 +13,16 @@ ghost use Rattle.heading.specs.Heading.{readHeading, readSerialLine, readAerodr
 ghost use Rattle.text.specs.Lines.{lines, under};
 ghost use Rattle.text.specs.Piece.{canonical};
 ghost use Rattle.text.specs.Put.{Put};
-ghost use Rattle.body.specs.Out.{refuse};
 ghost use Rattle.body.specs.Rows.{finished, more, validRows};
-ghost use Rattle.body.specs.Remarks.{readRemarks, itemsOf, languageOf, holdsItems, holdsLanguage, remarkLines};
+ghost use Rattle.body.specs.Remarks.{readRemarks, holdsItems, holdsLanguage};
+ghost use Rattle.sameness.specs.Same.{sameRows, sameItems, sameLanguage};
+ghost use Rattle.notice.specs.Same.{SaysSame, sameRecord};
 ghost use Rattle.notice.specs.Record.{blankRecord, validRecord};
 ghost use Rattle.notice.specs.Notice.{noticeText};
 ghost use Rattle.notice.specs.Writing.{frontText, partsText, Wrote};
 ghost use Rattle.notice.specs.Reading.{refused, result, reading};
-ghost use Rattle.notice.specs.Below.{agreement, judged, remarksAnswer};
+ghost use Rattle.remarks.specs.Held.{remarksAnswer};
+ghost use Rattle.notice.specs.Below.{agreement, judged};
 ghost use Rattle.notice.specs.Front.{blankFront, withAddresses, withFiling, withHeading, withSerial, withAerodrome, fillLine, lineRefusal, Filled, Stepped, FrontHeld, readBelow};
 use body::Items;
 use body::Language;
@@ -45,8 +47,19 @@ use heading::read_serial;
 use heading::valid_addresses;
 use heading::valid_filing;
 use heading::valid_title;
-use items::blank_item;
+use remarks::RemarksRead;
+use remarks::holds_items;
+use remarks::holds_language;
+use remarks::no_remarks;
+use remarks::put_remarks;
+use remarks::read_remarks;
 use row::blank_row;
+use sameness::same_addresses;
+use sameness::same_filing;
+use sameness::same_items;
+use sameness::same_language;
+use sameness::same_rows;
+use sameness::same_title;
 use text::first_line;
 use text::place;
 use text::put;
@@ -271,38 +284,7 @@ fn read_front(m: &[u8]) -> FrontRead
     }
 }
 
-// TEMP
-pub struct RemarksRead {
-    pub refusal: u8,
-    pub items: Items,
-    pub language: Language,
-}
-
-fn read_remarks(m: &[u8]) -> RemarksRead
-    ensures { λ r. ⌜ r ≡ remarksAnswer (readRemarks (more (lines (now (m .entry))))) ⌝ }
-{
-    no_remarks(1)
-}
-// END TEMP
-
 // ---- Below them
-
-fn no_remarks(refusal: u8) -> RemarksRead
-    ensures { λ r. ⌜ r ≡ remarksAnswer (refuse refusal) ⌝ }
-{
-    let item = blank_item();
-    RemarksRead {
-        refusal,
-        items: Items {
-            count: 0,
-            items: [item; 32],
-        },
-        language: Language {
-            length: 0,
-            bytes: [0; 400],
-        },
-    }
-}
 
 // What stands behind the rows: nothing where `)` closed them, else the remarks from `next` on.
 fn behind_rows(m: &[u8], closed: bool, next: usize) -> RemarksRead
@@ -428,26 +410,6 @@ pub fn read(message: &[u8]) -> Reading
 }
 
 // ---- Writing
-
-// TEMP
-fn holds_items(i: Items) -> bool
-    ensures { λ b. ⌜ b ≡ holdsItems i ⌝ }
-{
-    true
-}
-
-fn holds_language(l: Language) -> bool
-    ensures { λ b. ⌜ b ≡ holdsLanguage l ⌝ }
-{
-    true
-}
-
-fn put_remarks(out: &mut [u8], at: usize, items: Items, language: Language) -> usize
-    ensures { λ n. ⌜ Put at (under (remarkLines (itemsOf items) (languageOf language))) (now (out .entry)) (now (out .exit)) n ⌝ }
-{
-    put(out, at, b"")
-}
-// END TEMP
 
 // Every part is valid.
 fn valid_record(r: Record) -> bool
@@ -578,10 +540,7 @@ pub fn write(r: Record, buffer: &mut [u8]) -> Written
     if valid_record(r) {
         if fits(r, buffer.len()) {
             let length = put_notice(buffer, r);
-            return Written {
-                refusal: 0,
-                length,
-            };
+            return Written { refusal: 0, length };
         }
         return Written {
             refusal: TOO_SHORT,
@@ -592,4 +551,60 @@ pub fn write(r: Record, buffer: &mut [u8]) -> Written
         refusal: INVALID,
         length: 0,
     }
+}
+
+// ---- Sameness
+
+// Part by part, those first that differ soonest.
+fn same_record(a: Record, b: Record) -> bool
+    ensures { λ r. ⌜ r ≡ sameRecord a b ⌝ }
+{
+    let x = a.title;
+    let y = b.title;
+    if same_title(x, y) {
+        let x = a.filing;
+        let y = b.filing;
+        if same_filing(x, y) {
+            let x = a.addresses;
+            let y = b.addresses;
+            if same_addresses(x, y) {
+                return same_body(a, b);
+            }
+        }
+    }
+    false
+}
+
+fn same_body(a: Record, b: Record) -> bool
+    ensures { λ r. ⌜ r ≡ (sameRows (a .rows) (b .rows) and sameItems (a .items) (b .items) and sameLanguage (a .language) (b .language)) ⌝ }
+{
+    let x = a.rows;
+    let y = b.rows;
+    if same_rows(x, y) {
+        let x = a.items;
+        let y = b.items;
+        if same_items(x, y) {
+            let x = a.language;
+            let y = b.language;
+            return same_language(x, y);
+        }
+    }
+    false
+}
+
+// Whether both messages are accepted and their records are equal.
+pub fn same(a: &[u8], b: &[u8]) -> bool
+    ensures { λ r. ⌜ SaysSame (now (a .entry)) (now (b .entry)) r ⌝ }
+{
+    let x = read(a);
+    if x.refusal != 0 {
+        return false;
+    }
+    let y = read(b);
+    if y.refusal != 0 {
+        return false;
+    }
+    let first = x.record;
+    let second = y.record;
+    same_record(first, second)
 }

@@ -2,7 +2,7 @@ use mathlib.Core.Path.{refl}
 use Rattle.text.specs.Names.{isLetter, inClass}
 use Rattle.text.specs.Laws.Tests.{and-on, and-off}
 use Rattle.items.specs.Item.{isTaxiway}
-use Rattle.awareness.proofs.Writing.{run-none, run-some}
+use Rattle.text.specs.Laws.Runs.{run-none, run-some}
 use borrow.Author.Needs.{needs}
 use Rattle.awareness.proofs.is_taxiway.Statement.{statement}
 use Rattle.awareness.proofs.is_taxiway.Tie as tie

@@ -14,16 +14,16 @@ use Rattle.awareness.proofs.read_awareness.Statement.{statement}
 use Rattle.awareness.proofs.read_awareness.Tie as tie
 
 abbrev Inv-items : tie.InvT-items
-Inv-items line items₀ count₀ behind₀ at₀ items count behind at = SoFar line items count behind at
+Inv-items line none items₀ count₀ behind₀ at₀ items count behind at = SoFar line items count behind at
 
 abbrev μ-items : tie.MeasureT-items
-μ-items line items₀ count₀ behind₀ at₀ items count behind at = mostItems - count
+μ-items line none items₀ count₀ behind₀ at₀ items count behind at = mostItems - count
 
-blank-item-requires : tie.Need-blank-item-requires Inv-items μ-items
-blank-item-requires c κs = search needs
+no-items-requires : tie.Need-no-items-requires Inv-items μ-items
+no-items-requires c κs = search needs
 
 items-holds : tie.Need-items-holds Inv-items μ-items
-items-holds c = rw (c .blank-item .ensures) (begun (c .before .before .args .line .now))
+items-holds c = rw (c .before .no-items .ensures) (begun (c .before .before .before .args .line .now))
 
 read-item-requires : tie.Need-read-item-requires Inv-items μ-items
 read-item-requires c κs = search needs
@@ -62,7 +62,7 @@ items-again c =
     (sym (q .stands-behind .ensures) ∙ not-false (q .stands-behind .result) (c .before .if4 .left)) (c .spaces .ensures)
 
 -- the loop is left with the line's end or with the first misfit
-outcome : (c : tie.Joined1 Inv-items μ-items) → (let l = c .before .items in pick (c .if1 .fits) (record { fits = true; count = l .count; items = l .items }) (itemsAnswer misfit)) ≡ itemsAnswer (wholeAwareness (c .before .before .before .before .args .line .now))
+outcome : (c : tie.Joined1 Inv-items μ-items) → (let l = c .before .items in pick (c .if1 .fits) (record { fits = true; count = l .count; items = l .items }) (itemsAnswer misfit)) ≡ itemsAnswer (wholeAwareness (c .before .before .before .before .before .args .line .now))
 outcome c =
     let s = c .before .items .inv in
     ⊎-elim (λ w. rw (w .1) (sym (ends s (w .0 .taken))))
@@ -73,11 +73,8 @@ outcome c =
 returns : tie.Need-returns Inv-items μ-items
 returns c = rw (c .if5 .taken) at (outcome (c .before))
 
-no-items-requires : tie.Need-no-items-requires Inv-items μ-items
-no-items-requires c κs = search needs
-
 returns-2 : tie.Need-returns-2 Inv-items μ-items
-returns-2 c = c .no-items .ensures ∙ rw (c .before .if5 .left) at (outcome (c .before .before))
+returns-2 c = c .before .before .before .before .no-items .ensures ∙ rw (c .if5 .left) at (outcome (c .before))
 
 pub read-awareness-spec : {M : Type 1} → statement M
 read-awareness-spec =
@@ -85,7 +82,7 @@ read-awareness-spec =
     (tie.spec
     Inv-items
     μ-items
-    blank-item-requires
+    no-items-requires
     items-holds
     read-item-requires
     cast-stands-behind
@@ -98,5 +95,4 @@ read-awareness-spec =
     items-less
     items-again
     returns
-    no-items-requires
     returns-2)

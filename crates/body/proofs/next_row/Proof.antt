@@ -4,7 +4,7 @@ use lib.ListN.{length-take}
 use borrow.Author.Tests.{eq-eqb, ne-eqb, le-leb, lt-leb}
 use Rattle.text.specs.Lines.{lineSize, lineStep}
 use Rattle.body.specs.Held.{nextRow}
-use Rattle.body.proofs.Steps.{size-within}
+use Rattle.text.specs.Laws.Lines.{size-within}
 use borrow.Author.Needs.{needs}
 use Rattle.body.proofs.next_row.Statement.{statement}
 use Rattle.body.proofs.next_row.Tie as tie

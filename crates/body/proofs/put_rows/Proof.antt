@@ -1,3 +1,4 @@
+use Rattle.text.specs.Laws.Put.{nothing-put}
 use native.Mathlib.Omega.{arith}
 use lib.ListN.{length-map}
 use Prim.Native.Nat.{_≤_, _-_}
@@ -7,7 +8,7 @@ use lib.ListN.{length, take}
 use Rattle.text.specs.Put.{Put}
 use Rattle.text.specs.Laws.Put.{more}
 use Rattle.body.specs.Rows.{rowsOf, rowsText}
-use Rattle.body.proofs.Loops.{text-next, text-used, text-left, no-text}
+use Rattle.body.proofs.Loops.{text-next, text-used, text-left}
 use borrow.Author.Needs.{needs}
 use Rattle.body.proofs.put_rows.Statement.{statement}
 use Rattle.body.proofs.put_rows.Tie as tie
@@ -23,7 +24,7 @@ told-behind-requires c κs = search needs
 
 loop-holds : tie.Need-loop-holds Inv-loop μ-loop
 unfolding rowsText
-loop-holds c = let a = c .before .before .before .before .args in (search needs, refl, no-text (a .out .now) (c .told-behind .ensures))
+loop-holds c = let a = c .before .before .before .before .args in (search needs, refl, nothing-put (a .out .now) (c .told-behind .ensures))
 
 same-length : tie.Need-same-length Inv-loop μ-loop
 same-length c = c .before .before .before .loop .inv .1

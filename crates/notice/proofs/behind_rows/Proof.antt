@@ -1,11 +1,11 @@
-use Rattle.notice.specs.Below.{remarksAnswer}
+use Rattle.remarks.specs.Held.{remarksAnswer}
 use Rattle.body.specs.Remarks.{readRemarks}
 use Rattle.body.specs.Rows.{more}
 use Rattle.text.specs.Laws.Held.{part-all}
 use Rattle.text.specs.Lines.{lines}
 use Prim.Native.Nat.{ℕ}
 use mathlib.Core.List.{List}
-use mathlib.Core.Path.{_≡_, sym, _∙_, ap}
+use mathlib.Core.Path.{_∙_, ap}
 use borrow.Author.Needs.{needs}
 use Rattle.notice.proofs.behind_rows.Statement.{statement}
 use Rattle.notice.proofs.behind_rows.Tie as tie

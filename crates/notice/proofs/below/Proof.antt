@@ -1,6 +1,6 @@
 use Rattle.notice.proofs.Judging.{rows-refused, rows-read}
 use Rattle.notice.specs.Below.{judged}
-use mathlib.Core.Path.{_≡_, sym, _∙_, ap}
+use mathlib.Core.Path.{_∙_, ap}
 use borrow.Author.Needs.{needs}
 use Rattle.notice.proofs.below.Statement.{statement}
 use Rattle.notice.proofs.below.Tie as tie

@@ -1,6 +1,5 @@
 use Rattle.notice.specs.Below.{judged}
 use borrow.Author.Tests.{eq-eqb, ne-eqb}
-use mathlib.Core.Path.{_≡_, sym, _∙_, ap}
 use borrow.Author.Needs.{needs}
 use Rattle.notice.proofs.judged.Statement.{statement}
 use Rattle.notice.proofs.judged.Tie as tie

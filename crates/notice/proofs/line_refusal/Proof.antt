@@ -1,6 +1,5 @@
 use Rattle.notice.specs.Front.{lineRefusal}
 use Rattle.text.specs.Laws.Tests.{tests}
-use borrow.Author.Needs.{needs}
 use Rattle.notice.proofs.line_refusal.Statement.{statement}
 use Rattle.notice.proofs.line_refusal.Tie as tie
 

@@ -1,11 +1,8 @@
 use Rattle.notice.proofs.Opening.{no-line, first-line}
-use Rattle.notice.proofs.Within.{size-within, line-within}
-use Rattle.notice.specs.Front.{Stepped}
-use Rattle.text.specs.Held.{firstLine}
-use Rattle.text.specs.declared.Line.{Line}
+use Rattle.text.specs.Laws.Lines.{size-within}
 use lib.ListN.{length-take}
 use native.Mathlib.Omega.{arith}
-use mathlib.Core.Path.{_≡_, sym, subst, _∙_, ap}
+use mathlib.Core.Path.{ap}
 use borrow.Author.Needs.{needs}
 use Rattle.notice.proofs.next_line.Statement.{statement}
 use Rattle.notice.proofs.next_line.Tie as tie

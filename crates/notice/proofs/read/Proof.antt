@@ -4,7 +4,7 @@ use Rattle.notice.specs.Reading.{result}
 use Rattle.text.specs.Laws.Held.{part-all}
 use Rattle.text.specs.Lines.{lines}
 use mathlib.Core.List.{List}
-use mathlib.Core.Path.{_≡_, sym, _∙_, ap}
+use mathlib.Core.Path.{_∙_, ap}
 use Prim.Native.Nat.{ℕ}
 use borrow.Author.Needs.{needs}
 use Rattle.notice.proofs.read.Statement.{statement}

@@ -3,9 +3,8 @@ use Rattle.notice.specs.declared.Front.{Front}
 use Rattle.notice.specs.Front.{frontCount, blankFront, fillLines}
 use Rattle.text.specs.Lines.{lines}
 use borrow.Author.Tests.{not-true, not-false}
-use lib.ListN.{length, take, drop}
+use lib.ListN.{length, drop}
 use native.Mathlib.Omega.{arith}
-use mathlib.Core.Logic.{⊎-elim}
 use mathlib.Core.Path.{_≡_, sym, _∙_, ap}
 use Prim.Native.Nat.{_≤_, _-_}
 use borrow.Author.Needs.{needs}
@@ -50,10 +49,10 @@ lines-less c = search needs
 
 lines-again : tie.Need-lines-again Inv-lines μ-lines
 lines-again c = let c₁ = c .before .before .before .before in let c₂ = c₁ .before .before .before in let l = c₂ .lines in let m = c₂ .before .before .before .args .m .now in let s = c₁ .next-line in (
-      step-within m (l .at) (l .k) (l .front) (s .result) (s .ensures) (l .inv .0),
-      search needs,
-      sym (step-on m (l .at) (l .k) (l .front) (s .result) (s .ensures) (l .inv .0) (omega arith) (not-false _ (c .before .before .if2 .left))) ∙ l .inv .2,
-    )
+  step-within m (l .at) (l .k) (l .front) (s .result) (s .ensures) (l .inv .0),
+  search needs,
+  sym (step-on m (l .at) (l .k) (l .front) (s .result) (s .ensures) (l .inv .0) (omega arith) (not-false _ (c .before .before .if2 .left))) ∙ l .inv .2,
+)
 
 returns : tie.Need-returns Inv-lines μ-lines
 returns c = let l = c .before .lines in front-read (c .before .before .before .before .args .m .now) (l .at) (l .k) (l .front) (l .inv .0) (l .inv .2) (c .if1 .taken)

@@ -1,11 +1,10 @@
 use Rattle.notice.specs.Laws.Text.{parts-text}
 use Rattle.notice.specs.Laws.Size.{text-fits}
 use Rattle.text.specs.Laws.Put.{measured}
-use Rattle.text.specs.Put.{Put}
 use lib.ListN.{length}
 use native.Mathlib.Omega.{arith}
 use mathlib.Core.List.{List}
-use mathlib.Core.Path.{_≡_, _∙_, subst, ap}
+use mathlib.Core.Path.{_∙_, ap}
 use Prim.Native.Nat.{ℕ}
 use borrow.Author.Needs.{needs}
 use Rattle.notice.proofs.text_size.Statement.{statement}

@@ -1,12 +1,12 @@
 -- Reading the front line by line, and then what is below it, is reading the notice.
 use Prim.Native.Nat.{ℕ, suc}
-use mathlib.Core.Path.{_≡_, refl, ap, _∙_}
+use mathlib.Core.Path.{_≡_, refl}
 use mathlib.Core.List.{List, [], _∷_}
 use Rattle.text.specs.Read.{Got, misfit, got, andThen, whole}
 use Rattle.heading.specs.Addresses.{readAddresses}
 use Rattle.heading.specs.Filing.{readFiling}
 use Rattle.heading.specs.Heading.{readHeading, readSerialLine, readAerodrome}
-use Rattle.body.specs.Out.{Out, next, fit, line, refuse, taken}
+use Rattle.body.specs.Out.{Out, next, fit, line, taken}
 use Rattle.notice.specs.declared.Record.{Record}
 use Rattle.notice.specs.declared.Front.{Front}
 use Rattle.notice.specs.Reading.{readNotice}

@@ -1,6 +1,6 @@
 -- The text put part by part is the record's text, and what writing answers.
 use Prim.Native.Nat.{ℕ}
-use mathlib.Core.Path.{_≡_, refl, sym, subst, _∙_, ap}
+use mathlib.Core.Path.{_≡_, refl, subst, ap}
 use mathlib.Core.List.{List, [], _∷_, _++_, map, append-assoc}
 use mathlib.Core.Bool.{true, false}
 use lib.Dec.{leb}
@@ -22,10 +22,9 @@ use Rattle.heading.specs.Heading.{headingPieces, serialPieces, aerodromePieces}
 use Rattle.body.specs.Rows.{rowsOf, latest, rowsText, validRows}
 use Rattle.body.specs.Remarks.{itemsOf, languageOf, remarkLines}
 use Rattle.notice.specs.declared.Record.{Record}
-use Rattle.notice.specs.declared.Written.{Written}
 use Rattle.notice.specs.Record.{validRecord}
 use Rattle.notice.specs.Notice.{noticeLines, notice, noticeText}
-use Rattle.notice.specs.Writing.{writing, written, Wrote, frontText, partsText}
+use Rattle.notice.specs.Writing.{writing, written, Wrote, partsText}
 
 -- valid rows, each under the line before it
 rows-under : (rs : List Row) → all validRow rs ≡ true → rowsText rs ≡ under (map rowPieces rs)

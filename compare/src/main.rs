@@ -1,0 +1,93 @@
+//! A second reader of document 01, to compare the proved library with.
+//!
+//! It is written from the document alone and by another plan than the library: a message is cut into lines and groups
+//! first, and judged then.
+mod assess;
+mod desk;
+mod edges;
+mod generate;
+mod items;
+#[cfg(feature = "library")]
+mod library;
+mod reader;
+mod report;
+mod row;
+#[cfg(feature = "library")]
+mod run;
+mod selfcheck;
+mod text;
+
+use std::io::{self, Read, Write};
+use std::process::ExitCode;
+
+const USAGE: &str = "\
+compare list < message           what the lister prints
+compare desk < input             what the desk program prints
+compare rows < lines             what the program rowed prints
+compare desk-input SEED          writes a seeded input of the desk program
+compare edges-input              writes the stored messages, framed
+compare edges-answers < framed   what is to be answered for them
+compare self N SEED              the second reader against itself and the models in Python
+compare run N SEED               the proved library against the second reader (feature `library`)
+";
+
+fn input() -> io::Result<Vec<u8>> {
+    let mut bytes = Vec::new();
+    io::stdin().lock().read_to_end(&mut bytes)?;
+    Ok(bytes)
+}
+
+fn answer(words: &[&str]) -> io::Result<ExitCode> {
+    let output = match words {
+        ["list"] => reader::listing(&input()?),
+        ["desk"] => desk::desk(&input()?),
+        ["rows"] => selfcheck::rows(&input()?),
+        ["desk-input", seed] => generate::desk_input(&mut generate::Rng::new(number(seed)?)),
+        ["edges-input"] => edges::framed(&edges::messages()),
+        ["edges-answers"] => {
+            let file = input()?;
+            let messages = edges::unframed(&file).ok_or_else(|| wrong("the input is not framed"))?;
+            edges::answers(&messages)
+        }
+        ["self", count, seed] => return Ok(exit(selfcheck::run(number(count)? as usize, number(seed)?))),
+        ["run", count, seed] => return run(number(count)? as usize, number(seed)?),
+        _ => return Err(wrong(USAGE)),
+    };
+    io::stdout().lock().write_all(&output)?;
+    Ok(ExitCode::SUCCESS)
+}
+
+#[cfg(feature = "library")]
+fn run(count: usize, seed: u64) -> io::Result<ExitCode> {
+    Ok(exit(run::run(count, seed)))
+}
+
+#[cfg(not(feature = "library"))]
+fn run(_count: usize, _seed: u64) -> io::Result<ExitCode> {
+    Err(wrong("built without the library: PHENGARYL_LIB=directory cargo run --release --features library"))
+}
+
+fn number(word: &str) -> io::Result<u64> {
+    word.parse().map_err(|_| wrong(USAGE))
+}
+
+fn wrong(what: &str) -> io::Error {
+    io::Error::new(io::ErrorKind::InvalidInput, what)
+}
+
+fn exit(fits: bool) -> ExitCode {
+    if fits {
+        ExitCode::SUCCESS
+    } else {
+        ExitCode::FAILURE
+    }
+}
+
+fn main() -> ExitCode {
+    let words: Vec<String> = std::env::args().skip(1).collect();
+    let words: Vec<&str> = words.iter().map(String::as_str).collect();
+    answer(&words).unwrap_or_else(|error| {
+        eprintln!("{error}");
+        ExitCode::FAILURE
+    })
+}

@@ -1,0 +1,265 @@
+//! The notice as a whole: reading, writing, listing and sameness.
+use crate::assess::agreement;
+use crate::items::{self, Item};
+use crate::row::{read_time, Row};
+use crate::text::{digits, groups, letters, lines};
+
+pub const LONGEST_MESSAGE: usize = 4096;
+pub const MOST_ADDRESSES: usize = 8;
+pub const MOST_ROWS: usize = 8;
+
+/// What a notice tells. The heading's time is not held: it is the latest row time.
+#[derive(Clone, Debug, PartialEq, Eq)]
+pub struct Record {
+    /// GG or DD.
+    pub priority: [u8; 2],
+    pub addresses: Vec<[u8; 8]>,
+    /// ddhhmm as a number.
+    pub filed: u32,
+    pub originator: [u8; 8],
+    /// The two letters after SW.
+    pub region: [u8; 2],
+    pub serial: u32,
+    pub aerodrome: [u8; 4],
+    pub rows: Vec<Row>,
+    pub items: Vec<Item>,
+    /// Empty where there is no plain language.
+    pub plain: Vec<u8>,
+}
+
+struct Body {
+    rows: Vec<Row>,
+    items: Vec<Item>,
+    plain: Vec<u8>,
+}
+
+impl Record {
+    pub fn latest(&self) -> u32 {
+        self.rows.iter().map(|row| row.time).max().unwrap_or(0)
+    }
+
+    /// The lines of the canonical text, without their LF.
+    pub fn lines(&self) -> Vec<Vec<u8>> {
+        let aerodrome = word(&self.aerodrome);
+        let mut addressing = vec![word(&self.priority)];
+        addressing.extend(self.addresses.iter().map(|address| word(address)));
+        let mut lines = vec![
+            addressing.join(" ").into_bytes(),
+            format!("{:06} {}", self.filed, word(&self.originator)).into_bytes(),
+            format!("SW{}{:04} {aerodrome} {:08}", word(&self.region), self.serial, self.latest()).into_bytes(),
+            format!("(SNOWTAM {:04}", self.serial).into_bytes(),
+            aerodrome.into_bytes(),
+        ];
+        lines.extend(self.rows.iter().map(|row| row.text().into_bytes()));
+        if !self.items.is_empty() || !self.plain.is_empty() {
+            lines.push(Vec::new());
+            lines.push(items::text(&self.items).into_bytes());
+        }
+        if !self.plain.is_empty() {
+            lines.push(self.plain.clone());
+        }
+        if let Some(last) = lines.last_mut() {
+            last.push(b')');
+        }
+        lines
+    }
+}
+
+/// The record of a message, or the refusal number.
+pub fn read(message: &[u8]) -> Result<Record, u8> {
+    if message.len() > LONGEST_MESSAGE {
+        return Err(1);
+    }
+    let mut lines = lines(message).into_iter();
+    let (priority, addresses) = lines.next().and_then(addressing).ok_or(2)?;
+    let (filed, originator) = lines.next().and_then(filing).ok_or(2)?;
+    let (region, heading_serial, heading_aerodrome, time) = lines.next().and_then(heading).ok_or(3)?;
+    let serial = lines.next().and_then(opening).ok_or(4)?;
+    let aerodrome = lines.next().and_then(letters).ok_or(4)?;
+    let Body { rows, items, plain } = body(&mut lines)?;
+    if lines.next().is_some() {
+        return Err(4);
+    }
+    let record = Record { priority, addresses, filed, originator, region, serial, aerodrome, rows, items, plain };
+    if heading_serial != serial {
+        Err(10)
+    } else if heading_aerodrome != aerodrome {
+        Err(11)
+    } else if time != record.latest() {
+        Err(12)
+    } else {
+        Ok(record)
+    }
+}
+
+/// The canonical text of a record.
+pub fn write(record: &Record) -> Vec<u8> {
+    let mut text = record.lines().join(&b'\n');
+    text.push(b'\n');
+    text
+}
+
+/// What the lister prints for a message.
+pub fn listing(message: &[u8]) -> Vec<u8> {
+    match read(message) {
+        Err(number) => format!("REFUSED {number}\n").into_bytes(),
+        Ok(record) => {
+            let disagreeing: u32 = record.rows.iter().map(|row| u32::from(agreement(row).1)).sum();
+            let head = format!("ACCEPTED {} {} {disagreeing}\n", record.rows.len(), record.items.len());
+            [head.into_bytes(), write(&record)].concat()
+        }
+    }
+}
+
+/// Whether both are accepted and tell the same.
+pub fn same(one: &[u8], other: &[u8]) -> bool {
+    matches!((read(one), read(other)), (Ok(record), Ok(another)) if record == another)
+}
+
+fn word(letters: &[u8]) -> String {
+    String::from_utf8_lossy(letters).into_owned()
+}
+
+/// Line 1: the priority and the addresses.
+fn addressing(line: &[u8]) -> Option<([u8; 2], Vec<[u8; 8]>)> {
+    let groups = groups(line)?;
+    let (priority, addresses) = groups.split_first()?;
+    let priority = letters(priority).filter(|word| matches!(word, b"GG" | b"DD"))?;
+    let addresses = addresses.iter().map(|group| letters(group)).collect::<Option<Vec<_>>>()?;
+    (1..=MOST_ADDRESSES).contains(&addresses.len()).then_some((priority, addresses))
+}
+
+/// Line 2: the filing time and the originator.
+fn filing(line: &[u8]) -> Option<(u32, [u8; 8])> {
+    let groups = groups(line)?;
+    let [time, originator] = groups.as_slice() else { return None };
+    let time = digits(time, 6)?;
+    let real = (1..=31).contains(&(time / 10_000)) && time / 100 % 100 < 24 && time % 100 < 60;
+    Some((time, letters(originator)?)).filter(|_| real)
+}
+
+/// Line 3: the letters after SW, the serial, the aerodrome and the time.
+fn heading(line: &[u8]) -> Option<([u8; 2], u32, [u8; 4], u32)> {
+    let groups = groups(line)?;
+    let [number, aerodrome, time] = groups.as_slice() else { return None };
+    let (region, serial) = number.strip_prefix(b"SW")?.split_at_checked(2)?;
+    Some((letters(region)?, read_serial(serial)?, letters(aerodrome)?, read_time(time)?))
+}
+
+/// Line 4: the serial again.
+fn opening(line: &[u8]) -> Option<u32> {
+    let groups = groups(line)?;
+    let [b"(SNOWTAM", serial] = groups.as_slice() else { return None };
+    read_serial(serial)
+}
+
+fn read_serial(group: &[u8]) -> Option<u32> {
+    digits(group, 4).filter(|&serial| serial > 0)
+}
+
+/// Everything after line 5, up to the line that closes the notice.
+fn body<'m>(lines: &mut impl Iterator<Item = &'m [u8]>) -> Result<Body, u8> {
+    let mut body = Body { rows: Vec::new(), items: Vec::new(), plain: Vec::new() };
+    loop {
+        let line = lines.next().ok_or(4)?;
+        if line.is_empty() {
+            break;
+        }
+        if body.rows.len() == MOST_ROWS {
+            return Err(6);
+        }
+        let (text, closing) = closing(line);
+        let row = Row::read(text).ok_or(5)?;
+        if body.rows.iter().any(|other| other.runway == row.runway) {
+            return Err(7);
+        }
+        body.rows.push(row);
+        if closing {
+            return Ok(body);
+        }
+    }
+    if body.rows.is_empty() {
+        return Err(4);
+    }
+    let awareness = lines.next().ok_or(4)?;
+    if !awareness.is_empty() {
+        let (text, closing) = closing(awareness);
+        body.items = items::read(text).ok_or(8)?;
+        if closing {
+            return Ok(body);
+        }
+    }
+    // Plain language that lacks its `)` is 4 whatever its bytes, unlike a row or an awareness line.
+    let text = lines.next().and_then(|line| line.strip_suffix(b")")).ok_or(4)?;
+    if !items::is_plain_language(text) {
+        return Err(9);
+    }
+    body.plain = text.to_vec();
+    Ok(body)
+}
+
+/// A line's own text, and whether it closes the notice.
+fn closing(line: &[u8]) -> (&[u8], bool) {
+    match line.strip_suffix(b")") {
+        Some(text) => (text, true),
+        None => (line, false),
+    }
+}
+
+#[cfg(test)]
+mod tests {
+    use super::*;
+    use crate::edges::{self, EXAMPLE};
+
+    #[test]
+    fn the_example_of_document_01() {
+        let told = "ACCEPTED 2 2 1\n\
+                    GG XQAAYNYX XQBBYOYX\n\
+                    120645 XQAAYNYX\n\
+                    SWXQ0007 XQAA 01120640\n\
+                    (SNOWTAM 0007\n\
+                    XQAA\n\
+                    01120610 07L 3/5/5 75/25/NR 12/NR/NR DRY SNOW/FROST/DRY\n\
+                    01120640 07R 6/6/6 DRY/DRY/DRY\n\
+                    \n\
+                    DRIFTING SNOW. TWY A W SNOWBANK.\n\
+                    RWY 07R SWEPT 40M.)\n";
+        assert_eq!(String::from_utf8_lossy(&listing(EXAMPLE.as_bytes())), told);
+    }
+
+    #[test]
+    fn the_edges_and_the_decisions() {
+        for (message, number) in edges::by_hand() {
+            let told = read(&message).map_or_else(|number| number, |_| 0);
+            assert_eq!(told, number, "{}", message.escape_ascii());
+        }
+    }
+
+    #[test]
+    fn a_written_record_reads_back() {
+        for (message, _) in edges::by_hand() {
+            if let Ok(record) = read(&message) {
+                assert_eq!(read(&write(&record)), Ok(record));
+            }
+        }
+    }
+
+    #[test]
+    fn sameness() {
+        let message = EXAMPLE.as_bytes();
+        let text = listing(message).split_off("ACCEPTED 2 2 1\n".len());
+        assert!(same(message, &text) && same(message, message));
+        let refused = [message, b" "].concat();
+        assert!(!same(&refused, &refused) && !same(message, &refused) && !same(&refused, message));
+        // Row order counts, and so do runs of spaces in plain language.
+        let heading = EXAMPLE.lines().take(5).collect::<Vec<_>>().join("\n");
+        let with_rows = |rows: &str| format!("{heading}\n{rows}").into_bytes();
+        let left = "01120640 07L 6/6/6 DRY/DRY/DRY";
+        let right = "01120640 07R 6/6/6 DRY/DRY/DRY";
+        let one = with_rows(&format!("{left}\n{right})"));
+        let other = with_rows(&format!("{right}\n{left})"));
+        assert!(read(&one).is_ok() && read(&other).is_ok() && !same(&one, &other));
+        let spaced = EXAMPLE.replace("SWEPT 40M", "SWEPT  40M").into_bytes();
+        assert!(read(&spaced).is_ok() && !same(message, &spaced));
+    }
+}

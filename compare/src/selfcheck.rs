@@ -1,0 +1,162 @@
+//! The second reader against itself, and against the models in Python of rows and of the desk.
+use std::io::{self, Write};
+use std::process::{Command, Stdio};
+use std::thread;
+
+use crate::assess::{agreement, assess};
+use crate::desk::desk;
+use crate::generate::{self, Rng, Sample};
+use crate::reader::{read, same, write, LONGEST_MESSAGE};
+use crate::report::Report;
+use crate::row::{Row, Runway, Third};
+use crate::text::lines;
+
+/// What the program `rowed` answers for lines of rows: 5, or 0, the count of disagreeing thirds and the canonical row.
+pub fn rows(input: &[u8]) -> Vec<u8> {
+    let answer = |line: &&[u8]| match Row::read(line) {
+        Some(row) => format!("0 {} {}\n", agreement(&row).1, row.text()),
+        None => "5\n".to_string(),
+    };
+    lines(input).iter().map(answer).collect::<String>().into_bytes()
+}
+
+fn message(rng: &mut Rng, report: &mut Report) {
+    let Sample { message, record, number } = generate::message(rng);
+    let told = read(&message);
+    let refusal = told.as_ref().map_or_else(|&number| number, |_| 0);
+    report.count(refusal);
+    if number.is_some_and(|number| number != refusal) {
+        report.differ("number", &message, &format!("{number:?}"), &refusal.to_string());
+    }
+    if let Some(typed) = record {
+        if told.as_ref() != Ok(&typed) {
+            report.differ("typing", &message, &format!("{typed:?}"), &format!("{told:?}"));
+        }
+    }
+    let Ok(record) = told else {
+        if same(&message, &message) {
+            report.differ("a refused message", &message, "the same as none", "the same as itself");
+        }
+        return;
+    };
+    let text = write(&record);
+    let again = read(&text);
+    if text.len() > LONGEST_MESSAGE || again.as_ref() != Ok(&record) || !same(&message, &text) {
+        report.differ("canonical text", &text, &format!("{record:?}"), &format!("{again:?}"));
+    }
+}
+
+/// An assessed third is valid and agrees with Table 1; a refused one is all zero.
+fn observation(rng: &mut Rng, report: &mut Report) {
+    let seen = generate::observation(rng);
+    let (refusal, told) = assess(seen.kind, seen.cover, seen.depth, seen.temperature, seen.slippery);
+    report.count(refusal);
+    let [code, coverage, depth, description] = told;
+    let thirds = [Third { code, coverage, depth, description }; 3];
+    let row = Row { time: 1_010_000, runway: Runway { number: 1, side: 0 }, thirds, width: 0 };
+    let fits = if refusal == 0 { agreement(&row) == (0, 0) } else { told == [0; 4] };
+    if !fits {
+        report.differ("assessing", format!("{seen:?}").as_bytes(), "a third that agrees", &format!("{told:?}"));
+    }
+}
+
+/// A valid row reads back from either of its texts, an invalid one from none.
+fn numbers(rng: &mut Rng, report: &mut Report) {
+    let row = generate::numbers(rng);
+    let (refusal, _) = agreement(&row);
+    report.count(refusal);
+    let expected = (refusal == 0).then_some(&row);
+    for text in [row.text(), row.full_text()] {
+        let told = Row::read(text.as_bytes());
+        if told.as_ref() != expected {
+            report.differ("row", text.as_bytes(), &format!("{expected:?}"), &format!("{told:?}"));
+        }
+    }
+}
+
+/// What a Python model answers, or why it cannot be asked.
+fn model(name: &str, input: Vec<u8>) -> io::Result<Vec<u8>> {
+    let path = format!("{}/{name}", env!("CARGO_MANIFEST_DIR"));
+    let mut child = Command::new("python3")
+        .env("PYTHONDONTWRITEBYTECODE", "1")
+        .args([&path, "answers"])
+        .stdin(Stdio::piped())
+        .stdout(Stdio::piped())
+        .spawn()?;
+    let mut stdin = child.stdin.take().ok_or(io::ErrorKind::BrokenPipe)?;
+    let feeding = thread::spawn(move || stdin.write_all(&input));
+    let output = child.wait_with_output()?;
+    feeding.join().map_err(|_| io::ErrorKind::Other)??;
+    if output.status.success() {
+        Ok(output.stdout)
+    } else {
+        Err(io::ErrorKind::Other.into())
+    }
+}
+
+fn row_model(rng: &mut Rng, count: usize, report: &mut Report) -> io::Result<()> {
+    let mut input = Vec::new();
+    for _ in 0..count {
+        input.extend(generate::row_line(rng, &[]));
+        input.extend_from_slice(if rng.chance(20) { b"\r\n" } else { b"\n" });
+    }
+    let told = rows(&input);
+    let expected = model("rows.py", input.clone())?;
+    let mut refused = 0;
+    for ((line, told), expected) in lines(&input).iter().zip(lines(&told)).zip(lines(&expected)) {
+        refused += usize::from(told == b"5");
+        if told != expected {
+            report.differ("row", line, &expected.escape_ascii().to_string(), &told.escape_ascii().to_string());
+        }
+    }
+    println!("rows.py: {count} rows, {refused} of them refused");
+    Ok(())
+}
+
+fn desk_model(rng: &mut Rng, count: usize, report: &mut Report) -> io::Result<()> {
+    let mut opened = 0;
+    for _ in 0..count {
+        let input = generate::desk_input(rng);
+        let told = desk(&input);
+        let expected = model("desk.py", input.clone())?;
+        opened += usize::from(told.starts_with(b"OPEN"));
+        if told != expected {
+            report.differ("desk", &input, &expected.escape_ascii().to_string(), &told.escape_ascii().to_string());
+        }
+    }
+    println!("desk.py: {count} inputs, {opened} of them opened a board");
+    Ok(())
+}
+
+/// Whether nothing differed.
+pub fn run(count: usize, seed: u64) -> bool {
+    let mut rng = Rng::new(seed);
+    let mut report = Report::new();
+    (0..count).for_each(|_| message(&mut rng, &mut report));
+    report.print_counts("messages");
+    let mut equal = 0;
+    for _ in 0..count / 10 {
+        let (one, other) = generate::pair(&mut rng);
+        let answer = same(&one, &other);
+        equal += usize::from(answer);
+        if answer != same(&other, &one) {
+            report.differ("sameness", &one, "either way", &other.escape_ascii().to_string());
+        }
+    }
+    println!("pairs that tell the same: {equal} of {}", count / 10);
+    (0..count).for_each(|_| observation(&mut rng, &mut report));
+    report.print_counts("observations");
+    (0..count).for_each(|_| numbers(&mut rng, &mut report));
+    report.print_counts("rows as numbers");
+    let asked = row_model(&mut rng, count / 4, &mut report)
+        .and_then(|()| desk_model(&mut rng, (count / 1000).min(300), &mut report));
+    if let Err(error) = asked {
+        println!("the models in Python were not asked: {error}");
+    }
+    println!(
+        "{count} messages, {} pairs, {count} observations, {count} rows, {} differences",
+        count / 10,
+        report.differences()
+    );
+    report.differences() == 0
+}

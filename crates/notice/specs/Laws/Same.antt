@@ -1,0 +1,60 @@
+-- Records compared part by part, and what the sameness check may say.
+use Prim.Native.Nat.{ℕ}
+use mathlib.Core.Path.{_≡_, refl, sym, _∙_, ap}
+use mathlib.Core.List.{List}
+use mathlib.Core.Bool.{Bool, true, false}
+use Rattle.text.specs.Laws.Base.{and-1, and-2, and-i, true-false}
+use Rattle.sameness.specs.Laws.{addresses-same, same-addresses, filing-same, same-filing, title-same, same-title, rows-same, same-rows, items-same, same-items, language-same, same-language}
+use Rattle.notice.specs.declared.Record.{Record}
+use Rattle.notice.specs.declared.Reading.{Reading}
+use Rattle.notice.specs.Reading.{accepted, reading}
+use Rattle.notice.specs.Same.{TellSame, SaysSame, sameRecord}
+
+record-same : (a b : Record) → sameRecord a b ≡ true → a ≡ b
+unfolding sameRecord
+record-same a b e =
+    let e₂ = and-2 _ _ e in
+    let e₃ = and-2 _ _ e₂ in
+    let e₄ = and-2 _ _ e₃ in
+    let e₅ = and-2 _ _ e₄ in
+    let t = title-same (a .title) (b .title) (and-1 _ _ e) in
+    let f = filing-same (a .filing) (b .filing) (and-1 _ _ e₂) in
+    let x = addresses-same (a .addresses) (b .addresses) (and-1 _ _ e₃) in
+    let r = rows-same (a .rows) (b .rows) (and-1 _ _ e₄) in
+    let is = items-same (a .items) (b .items) (and-1 _ _ e₅) in
+    let l = language-same (a .language) (b .language) (and-2 _ _ e₅) in
+    λ i. record { addresses = x i; filing = f i; title = t i; rows = r i; items = is i; language = l i }
+
+same-record : (a : Record) → sameRecord a a ≡ true
+unfolding sameRecord
+same-record a =
+    and-i (same-title (a .title)) (and-i (same-filing (a .filing)) (and-i (same-addresses (a .addresses))
+    (and-i (same-rows (a .rows)) (and-i (same-items (a .items)) (same-language (a .language))))))
+
+-- the readings of two messages
+module _ (a b : List ℕ) (x : Reading) (first : x ≡ reading a) where
+  of-first : (t : TellSame a b) → x ≡ accepted (t .tells)
+  of-first t = first ∙ t .one
+
+  pub first-refused : (x .refusal ≡ 0 → ⊥) → SaysSame a b false
+  first-refused n = (λ e. true-false (sym e), λ t. absurd (n (ap (λ (r : Reading). r .refusal) (of-first t))))
+
+  module _ (y : Reading) (second : y ≡ reading b) where
+    of-second : (t : TellSame a b) → y ≡ accepted (t .tells)
+    of-second t = second ∙ t .other
+
+    pub second-refused : (y .refusal ≡ 0 → ⊥) → SaysSame a b false
+    second-refused n = (λ e. true-false (sym e), λ t. absurd (n (ap (λ (r : Reading). r .refusal) (of-second t))))
+
+    pub compared : x .refusal ≡ 0 → y .refusal ≡ 0 → (r : Bool) → r ≡ sameRecord (x .«record») (y .«record») → SaysSame a b r
+    compared p q r e = (
+      λ z.
+        let s = record-same (x .«record») (y .«record») (sym e ∙ z) in
+        let u : x ≡ accepted (x .«record») = λ i. record { refusal = p i; «record» = x .«record» } in
+        let v : y ≡ accepted (x .«record») = λ i. record { refusal = q i; «record» = sym s i } in
+        record { tells = x .«record»; one = sym first ∙ u; other = sym second ∙ v },
+      λ t.
+        let u = ap (λ (r : Reading). r .«record») (of-first t) in
+        let v = ap (λ (r : Reading). r .«record») (of-second t) in
+        e ∙ rw (u, v) (same-record (t .tells)),
+    )

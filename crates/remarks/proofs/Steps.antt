@@ -1,0 +1,126 @@
+-- The steps of reading what stands below the rows are the steps of its definition.
+use Prim.Native.Nat.{ℕ, suc, _-_, _<_, _≤_}
+use mathlib.Core.Path.{_≡_, refl, sym, _∙_, ap}
+use mathlib.Core.List.{List, [], _∷_}
+use mathlib.Core.Bool.{Bool, true, false}
+use native.Mathlib.Omega.{arith}
+use lib.Dec.{ltb}
+use lib.ListN.{length, take, drop, length-take, length-drop, length-append}
+use lib.Seq.{take-all, take-take, length-take-le}
+use borrow.Author.Tests.{ne-eqb, lt-ltb, le-ltb}
+use Rattle.text.specs.Choice.{pick, isEmpty}
+use Rattle.text.specs.Read.{Got, misfit, got}
+use Rattle.text.specs.Held.{firstLine}
+use Rattle.text.specs.Lines.{lines, lineSize, lineStep, closed, front, opened}
+use Rattle.text.specs.declared.Line.{Line}
+use Rattle.text.specs.Laws.Arrays.{take-front}
+use Rattle.text.specs.Laws.Held.{part-all}
+use Rattle.text.specs.Laws.Lines.{lines-first, front-part, closed-is}
+use Rattle.items.specs.declared.Item.{Item}
+use Rattle.items.specs.Awareness.{wholeAwareness}
+use Rattle.items.specs.Language.{wholeLanguage}
+use Rattle.items.specs.Held.{languageAnswer}
+use Rattle.awareness.specs.Held.{itemsAnswer}
+use Rattle.body.specs.declared.Items.{Items}
+use Rattle.body.specs.Out.{refuse, fit, atEnd}
+use Rattle.body.specs.Rows.{more}
+use Rattle.body.specs.Remarks.{makeItems, makeLanguage, remarks, readLanguageLine, readRemarks}
+use Rattle.remarks.specs.Held.{noRemarks, remarksAnswer, ending, lastItems, lastLanguage, nextLanguage, itemsStep}
+use Rattle.text.specs.Laws.Lines.{size-within}
+
+-- the text of a line: all of it but the `)` that closes
+module _ (l : List ℕ) where
+  pub closed-size : closed l ≡ true → length l - 1 ≡ length (opened l)
+  closed-size e = rw (e, front-part l, length-take) (omega arith)
+
+  pub open-size : closed l ≡ false → length l ≡ length (opened l)
+  open-size e = rw e
+
+  text-part : take (length (opened l)) l ≡ opened l
+  text-part = go (closed l) refl
+    where
+      go : (b : Bool) → closed l ≡ b → take (length (pick b (front l) l)) l ≡ pick b (front l) l
+      go true e = ap (take (length (front l))) (closed-is l e) ∙ take-front (front l) (41 ∷ [])
+      go false e = take-all (length l) l (omega arith)
+
+  text-short : length (opened l) ≤ length l
+  text-short = omega (arith, simp length-take at (ap length text-part))
+
+  text-shut : ltb (length (opened l)) (length l) ≡ closed l
+  text-shut = go (closed l) refl
+    where
+      go : (b : Bool) → closed l ≡ b → ltb (length (pick b (front l) l)) (length l) ≡ b
+      go true e = lt-ltb (length (front l)) (length l) (omega (arith, ap length (closed-is l e), length-append (front l) (41 ∷ [])))
+      go false e = le-ltb (length l) (length l) (omega arith)
+
+-- the same of the line at the front of a message
+module _ (m : List ℕ) (line : Line) (f : line ≡ firstLine m) (n : ℕ) (e : n ≡ length (opened (take (line .size) m))) where
+  size-here : line .size ≡ lineSize m
+  size-here = ap (λ (l : Line). l .size) f
+
+  next-here : line .next ≡ lineStep m
+  next-here = ap (λ (l : Line). l .next) f
+
+  line-size : length (take (line .size) m) ≡ line .size
+  line-size = length-take-le (line .size) m (rw size-here (size-within m))
+
+  pub text-within : n ≤ line .size
+  text-within = omega (arith, text-short (take (line .size) m), line-size)
+
+  text-there : take n m ≡ opened (take (lineSize m) m)
+  text-there = sym (take-take n (line .size) m text-within) ∙ rw (e, text-part (take (line .size) m), size-here)
+
+  text-shut-there : ltb n (line .size) ≡ closed (take (lineSize m) m)
+  text-shut-there = rw (e) (ap (ltb (length (opened (take (line .size) m)))) (sym line-size) ∙ text-shut (take (line .size) m) ∙ rw size-here)
+
+-- the lines of a message that is not empty
+first-lines : (m : List ℕ) → (length m ≡ 0 → ⊥) → lines m ≡ take (lineSize m) m ∷ lines (drop (lineStep m) m)
+first-lines [] h = absurd (h refl)
+first-lines (x ∷ m) h = lines-first x m
+
+pub nothing-below : (m : List ℕ) → length m ≡ 0 → noRemarks 4 ≡ remarksAnswer (readRemarks (more (lines m)))
+unfolding lines
+nothing-below [] h = refl
+nothing-below (x ∷ m) h = absurd (omega arith)
+
+module _ (is : List Item) where
+  end-says : (t rest : List ℕ) → ending (makeItems is) (makeLanguage t) (length rest) ≡ remarksAnswer (atEnd (lines rest) (remarks is t))
+  unfolding ending lines
+  end-says t [] = refl
+  end-says t (x ∷ m) = rw (ne-eqb (suc (length m)) 0 (omega arith), lines-first x m)
+
+  closed-says : (c : Bool) (g : Got (List ℕ)) (rest : List ℕ)
+      → pick c (lastLanguage (makeItems is) (languageAnswer g) (length rest)) (noRemarks 4) ≡ remarksAnswer (pick c (fit 9 g (λ p. atEnd (lines rest) (remarks is p))) (refuse 4))
+  unfolding lastLanguage
+  closed-says false g rest = refl
+  closed-says true misfit rest = refl
+  closed-says true (got t j) rest = end-says t rest
+
+  language-says : (m : List ℕ) → nextLanguage (makeItems is) m ≡ remarksAnswer (readLanguageLine is (lines m))
+  unfolding nextLanguage lines
+  language-says [] = refl
+  language-says (x ∷ m) =
+      let l = take (lineSize (x ∷ m)) (x ∷ m) in
+      let rest = drop (lineStep (x ∷ m)) (x ∷ m) in
+      rw (ne-eqb (suc (length m)) 0 (omega arith), ← length-drop (lineStep (x ∷ m)) (x ∷ m), lines-first x m) (closed-says (closed l) (wholeLanguage (opened l)) rest)
+
+items-says : (g : Got (List Item)) (c : Bool) (rest : List ℕ)
+    → itemsStep (itemsAnswer g) c rest ≡ remarksAnswer (fit 8 g (λ is. pick c (pick (isEmpty is) (refuse 8) (atEnd (lines rest) (remarks is []))) (readLanguageLine is (lines rest))))
+unfolding itemsStep lastItems
+items-says misfit c rest = refl
+items-says (got [] j) true rest = refl
+items-says (got (i ∷ is) j) true rest = rw (ne-eqb (suc (length is)) 0 (omega arith)) (end-says (i ∷ is) [] rest)
+items-says (got is j) false rest = language-says is rest
+
+-- the answers of the code
+module _ (m : List ℕ) (some : length m ≡ 0 → ⊥) (line : Line) (f : line ≡ firstLine m) (n : ℕ) (e : n ≡ length (opened (take (line .size) m))) where
+  pub language-closed : (i : Items) → n < line .size → nextLanguage i m ≡ lastLanguage i (languageAnswer (wholeLanguage (take n m))) (length m - line .next)
+  unfolding nextLanguage
+  language-closed i h = rw (ne-eqb (length m) 0 some, ← text-there m line f n e, ← text-shut-there m line f n e, lt-ltb n (line .size) h, next-here m line f n e)
+
+  pub language-open : (i : Items) → line .size ≤ n → nextLanguage i m ≡ noRemarks 4
+  unfolding nextLanguage
+  language-open i h = rw (ne-eqb (length m) 0 some, ← text-shut-there m line f n e, le-ltb n (line .size) h)
+
+  pub remarks-says : itemsStep (itemsAnswer (wholeAwareness (take n m))) (ltb n (line .size)) (take (length m - line .next) (drop (line .next) m)) ≡ remarksAnswer (readRemarks (more (lines m)))
+  remarks-says = rw (text-there m line f n e, text-shut-there m line f n e, part-all, next-here m line f n e, first-lines m some) (items-says (wholeAwareness (opened (take (lineSize m) m))) (closed (take (lineSize m) m)) (drop (lineStep m) m))

@@ -1,0 +1,27 @@
+use Rattle.text.specs.Laws.Tests.{tests}
+use Rattle.remarks.specs.Held.{lastItems}
+use borrow.Author.Needs.{needs}
+use Rattle.remarks.proofs.last_items.Statement.{statement}
+use Rattle.remarks.proofs.last_items.Tie as tie
+
+no-remarks-requires : tie.Need-no-remarks-requires
+no-remarks-requires c κs = search needs
+
+returns : tie.Need-returns
+unfolding lastItems
+returns c = simp (← (c .no-remarks .ensures)) (search tests)
+
+blank-language-requires : tie.Need-blank-language-requires
+blank-language-requires c κs = search needs
+
+ending-requires : tie.Need-ending-requires
+ending-requires c κs = search needs
+
+returns-2 : tie.Need-returns-2
+unfolding lastItems
+returns-2 c = simp (← (c .before .blank-language .ensures), ← (c .ending .ensures)) (search tests)
+
+pub last-items-spec : {M : Type 1} → statement M
+last-items-spec =
+    tie.close
+    (tie.spec no-remarks-requires returns blank-language-requires ending-requires returns-2)

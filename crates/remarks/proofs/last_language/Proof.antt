@@ -1,0 +1,22 @@
+use Rattle.text.specs.Laws.Tests.{tests}
+use Rattle.remarks.specs.Held.{lastLanguage}
+use borrow.Author.Needs.{needs}
+use Rattle.remarks.proofs.last_language.Statement.{statement}
+use Rattle.remarks.proofs.last_language.Tie as tie
+
+ending-requires : tie.Need-ending-requires
+ending-requires c κs = search needs
+
+returns : tie.Need-returns
+unfolding lastLanguage
+returns c = simp (← (c .ending .ensures)) (search tests)
+
+no-remarks-requires : tie.Need-no-remarks-requires
+no-remarks-requires c κs = search needs
+
+returns-2 : tie.Need-returns-2
+unfolding lastLanguage
+returns-2 c = simp (← (c .no-remarks .ensures)) (search tests)
+
+pub last-language-spec : {M : Type 1} → statement M
+last-language-spec = tie.close (tie.spec ending-requires returns no-remarks-requires returns-2)

@@ -1,0 +1,73 @@
+use mathlib.Core.Path.{_≡_, sym, _∙_, ap}
+use native.Mathlib.Omega.{arith}
+use lib.ListN.{length-take}
+use Rattle.text.specs.Laws.Lines.{size-within, line-within}
+use borrow.Author.Tests.{eq-eqb}
+use Rattle.remarks.specs.Held.{nextLanguage}
+use Rattle.remarks.proofs.Steps.{language-closed, language-open}
+use borrow.Author.Needs.{needs}
+use Rattle.remarks.proofs.next_language.Statement.{statement}
+use Rattle.remarks.proofs.next_language.Tie as tie
+
+no-remarks-requires : tie.Need-no-remarks-requires
+no-remarks-requires c κs = search needs
+
+returns : tie.Need-returns
+unfolding nextLanguage
+returns c = rw (eq-eqb _ _ (c .before .if1 .taken)) (c .no-remarks .ensures)
+
+first-line-requires : tie.Need-first-line-requires
+first-line-requires c κs = search needs
+
+slice-aggregate-text-size : tie.Need-slice-aggregate-text-size
+slice-aggregate-text-size c = let s = ap (λ l. l .size) (c .before .first-line .ensures) in let w = size-within (c .before .before .before .before .args .m .now) in rw length-take (omega arith)
+
+text-size-requires : tie.Need-text-size-requires
+text-size-requires c κs = search needs
+
+slice-aggregate-read-language : tie.Need-slice-aggregate-read-language
+slice-aggregate-read-language c = let s = ap (λ l. l .size) (c .before .before .before .before .first-line .ensures) in let w = size-within (c .before .before .before .before .before .before .before .args .m .now) in rw length-take (omega arith)
+
+read-language-requires : tie.Need-read-language-requires
+read-language-requires c κs = search needs
+
+sub-last-language : tie.Need-sub-last-language
+sub-last-language c = let s = ap (λ l. l .next) (c .before .before .before .before .before .before .first-line .ensures) in let w = line-within (c .before .before .before .before .before .before .before .before .before .args .m .now) in omega arith
+
+last-language-requires : tie.Need-last-language-requires
+last-language-requires c κs = search needs
+
+returns-2 : tie.Need-returns-2
+returns-2 c =
+    let s = c .before .before .before .before .before in
+    let p = s .before .before in
+    let a = p .before .before .before .args in
+    let e = language-closed (a .m .now) (p .before .if1 .left) (p .first-line .result) (p .first-line .ensures) (s .text-size .result) (s .text-size .ensures) (a .items) (c .before .before .before .before .if2 .taken) in
+    c .last-language .ensures ∙ rw (c .before .before .read-language .ensures) (sym e)
+
+no-remarks-requires-2 : tie.Need-no-remarks-requires-2
+no-remarks-requires-2 c κs = search needs
+
+returns-3 : tie.Need-returns-3
+returns-3 c =
+    let s = c .before .before in
+    let p = s .before .before in
+    let a = p .before .before .before .args in
+    c .no-remarks2 .ensures ∙ sym (language-open (a .m .now) (p .before .if1 .left) (p .first-line .result) (p .first-line .ensures) (s .text-size .result) (s .text-size .ensures) (a .items) (c .before .if2 .left))
+
+pub next-language-spec : {M : Type 1} → statement M
+next-language-spec =
+    tie.close
+    (tie.spec
+    no-remarks-requires
+    returns
+    first-line-requires
+    slice-aggregate-text-size
+    text-size-requires
+    slice-aggregate-read-language
+    read-language-requires
+    sub-last-language
+    last-language-requires
+    returns-2
+    no-remarks-requires-2
+    returns-3)

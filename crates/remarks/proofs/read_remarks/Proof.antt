@@ -1,0 +1,79 @@
+use mathlib.Core.Path.{_≡_, sym, _∙_, ap}
+use native.Mathlib.Omega.{arith}
+use lib.ListN.{length-take}
+use Rattle.text.specs.Laws.Lines.{size-within, line-within}
+use Rattle.remarks.proofs.Steps.{nothing-below, text-within, remarks-says}
+use borrow.Author.Needs.{needs}
+use Rattle.remarks.proofs.read_remarks.Statement.{statement}
+use Rattle.remarks.proofs.read_remarks.Tie as tie
+
+no-remarks-requires : tie.Need-no-remarks-requires
+no-remarks-requires c κs = search needs
+
+returns : tie.Need-returns
+returns c = c .no-remarks .ensures ∙ nothing-below (c .before .before .before .args .m .now) (c .before .if1 .taken)
+
+first-line-requires : tie.Need-first-line-requires
+first-line-requires c κs = search needs
+
+slice-aggregate-text-size : tie.Need-slice-aggregate-text-size
+slice-aggregate-text-size c = let s = ap (λ l. l .size) (c .before .first-line .ensures) in let w = size-within (c .before .before .before .before .args .m .now) in rw length-take (omega arith)
+
+text-size-requires : tie.Need-text-size-requires
+text-size-requires c κs = search needs
+
+slice-aggregate-read-awareness : tie.Need-slice-aggregate-read-awareness
+slice-aggregate-read-awareness c =
+    let p = c .before .before .before in
+    let m = p .before .before .before .args .m .now in
+    let s = ap (λ l. l .size) (p .first-line .ensures) in
+    let w = size-within m in
+    let t = text-within m (p .first-line .result) (p .first-line .ensures) (c .before .text-size .result) (c .before .text-size .ensures) in
+    rw length-take (omega arith)
+
+read-awareness-requires : tie.Need-read-awareness-requires
+read-awareness-requires c κs = search needs
+
+sub-items-step : tie.Need-sub-items-step
+sub-items-step c =
+    let p = c .before .before .before .before in
+    let s = ap (λ l. l .next) (p .first-line .ensures) in
+    let w = line-within (p .before .before .before .args .m .now) in
+    omega arith
+
+part-items-step-start : tie.Need-part-items-step-start
+part-items-step-start c =
+    let p = c .before .before .before .before in
+    let s = ap (λ l. l .next) (p .first-line .ensures) in
+    let w = line-within (p .before .before .before .args .m .now) in
+    omega arith
+
+part-items-step-end : tie.Need-part-items-step-end
+part-items-step-end c = search needs
+
+items-step-requires : tie.Need-items-step-requires
+items-step-requires c κs = search needs
+
+returns-2 : tie.Need-returns-2
+returns-2 c =
+    let s = c .before .before .before .before in
+    let p = s .before .before in
+    let m = p .before .before .before .args .m .now in
+    c .items-step .ensures ∙ rw (c .before .before .read-awareness .ensures) (remarks-says m (p .before .if1 .left) (p .first-line .result) (p .first-line .ensures) (s .text-size .result) (s .text-size .ensures))
+
+pub read-remarks-spec : {M : Type 1} → statement M
+read-remarks-spec =
+    tie.close
+    (tie.spec
+    no-remarks-requires
+    returns
+    first-line-requires
+    slice-aggregate-text-size
+    text-size-requires
+    slice-aggregate-read-awareness
+    read-awareness-requires
+    sub-items-step
+    part-items-step-start
+    part-items-step-end
+    items-step-requires
+    returns-2)

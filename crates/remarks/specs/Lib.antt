@@ -1,0 +1,2 @@
+-- What the promises cite.
+pub mod Held
