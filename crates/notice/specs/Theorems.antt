@@ -121,9 +121,9 @@ pub record OneNotice (a b : List ℕ) : Type 0 where
 pub same-exactly : (a b : List ℕ) → TellSame a b ↔ OneNotice a b
 same-exactly a b = (
   λ t.
-    let x = sound a (t .tells) (t .one) in
-    let y = sound b (t .tells) (t .other) in
-    record { tells = t .tells; valid = x .0; one = x .1; other = y .1 },
+      let x = sound a (t .tells) (t .one) in
+      let y = sound b (t .tells) (t .other) in
+      record { tells = t .tells; valid = x .0; one = (x .1, x .2); other = (y .1, y .2) },
   λ n. record {
     tells = n .tells;
     one = complete a (n .tells) (n .valid) (n .one .0) (n .one .1);

@@ -49,12 +49,12 @@ module _ (a b : List ℕ) (x : Reading) (first : x ≡ reading a) where
     pub compared : x .refusal ≡ 0 → y .refusal ≡ 0 → (r : Bool) → r ≡ sameRecord (x .«record») (y .«record») → SaysSame a b r
     compared p q r e = (
       λ z.
-        let s = record-same (x .«record») (y .«record») (sym e ∙ z) in
-        let u : x ≡ accepted (x .«record») = λ i. record { refusal = p i; «record» = x .«record» } in
-        let v : y ≡ accepted (x .«record») = λ i. record { refusal = q i; «record» = sym s i } in
-        record { tells = x .«record»; one = sym first ∙ u; other = sym second ∙ v },
+          let s = record-same (x .«record») (y .«record») (sym e ∙ z) in
+          let u : x ≡ accepted (x .«record») = λ i. record { refusal = p i; «record» = x .«record» } in
+          let v : y ≡ accepted (x .«record») = λ i. record { refusal = q i; «record» = sym s i } in
+          record { tells = x .«record»; one = sym first ∙ u; other = sym second ∙ v },
       λ t.
-        let u = ap (λ (r : Reading). r .«record») (of-first t) in
-        let v = ap (λ (r : Reading). r .«record») (of-second t) in
-        e ∙ rw (u, v) (same-record (t .tells)),
+          let u = ap (λ (r : Reading). r .«record») (of-first t) in
+          let v = ap (λ (r : Reading). r .«record») (of-second t) in
+          e ∙ rw (u, v) (same-record (t .tells)),
     )

@@ -1,7 +1,6 @@
 use mathlib.Core.Path.{sym, _∙_}
 use native.Mathlib.Omega.{arith}
-use Rattle.remarks.proofs.Loops.{closed-some}
-use Rattle.remarks.proofs.Steps.{closed-size, open-size}
+use Rattle.remarks.proofs.Steps.{closed-some, closed-size, open-size}
 use borrow.Author.Needs.{needs}
 use Rattle.remarks.proofs.text_size.Statement.{statement}
 use Rattle.remarks.proofs.text_size.Tie as tie
