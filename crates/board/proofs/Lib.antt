@@ -1,3 +1,4 @@
 pub mod Places
 pub mod Runways
 pub mod Lines
+pub mod Writing

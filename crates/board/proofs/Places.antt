@@ -18,7 +18,7 @@ use Rattle.board.specs.Report.{placeOf}
 
 -- what is left from place i, of all and of the first n
 module _ {A : Type 0} (d : A) (l : List A) (i : ℕ) where
-  next-place : i < length l → drop i l ≡ getD l i d ∷ drop (i + 1) l
+  pub next-place : i < length l → drop i l ≡ getD l i d ∷ drop (i + 1) l
   next-place h = rw add-one (drop-cons l i d h)
 
   next-used : (n : ℕ) → i < length l → i < n → drop i (take n l) ≡ getD l i d ∷ drop (i + 1) (take n l)

@@ -63,11 +63,11 @@ drop-replicate a zero n h = let z : n - 0 ≡ n = omega arith in rw z
 drop-replicate a (suc k) zero h = absurd (omega arith)
 drop-replicate a (suc k) (suc n) h = let z : suc n - suc k ≡ n - k = omega arith in rw z (drop-replicate a k n (omega arith))
 
-sets-pad : (ws : List Runway) → length ws ≤ places → sets (replicate places blankRunway) 0 ws ≡ pad places blankRunway ws
-sets-pad ws h =
-    let l = length-replicate {A = Runway} places blankRunway in
-    let z : 0 + length ws ≡ length ws = omega arith in
-    sets-eq ws (replicate places blankRunway) 0 (omega arith) ∙ rw z (ap (λ k. ws ++ k) (drop-replicate blankRunway (length ws) places h))
+-- elements stored over zeros are the elements in their array
+pub sets-pad : {A : Type 0} (a : A) (n : ℕ) (l : List A) → length l ≤ n → sets (replicate n a) 0 l ≡ pad n a l
+sets-pad a n l h =
+    let z : 0 + length l ≡ length l = omega arith in
+    sets-eq l (replicate n a) 0 (rw length-replicate (omega arith)) ∙ rw z (ap (λ k. l ++ k) (drop-replicate a (length l) n h))
 
 pub onto-all : (m : List ℕ) → onto 0 (replicate places blankRunway) (listFrom 0 m) ≡ listAnswer (listFrom 0 m)
 onto-all m = go (readMany (readAs makeRunway readSpaced) places m) refl
@@ -77,7 +77,7 @@ onto-all m = go (readMany (readAs makeRunway readSpaced) places m) refl
     go (got ws []) q =
         let v = many-laws spaced-laws space-no-side places .sound {m = m} q .0 in
         let z : 0 + length ws ≡ length ws = omega arith in
-        let e = sets-pad ws (v .0) in
+        let e = sets-pad blankRunway places ws (v .0) in
         λ i. record { count = z i; runways = e i }
     go (got ws (x ∷ k)) q = refl
 

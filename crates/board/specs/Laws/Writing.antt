@@ -96,7 +96,7 @@ past-none : Past blankRunway []
 unfolding Past isAmong
 past-none q u c n = refl
 
-few-reported : (rs : List Row) → length (reported rs) ≤ length rs
+pub few-reported : (rs : List Row) → length (reported rs) ≤ length rs
 unfolding reported
 few-reported [] = omega arith
 few-reported (r ∷ rs) = go (isBlankRow r) (few-reported rs)
