@@ -24,7 +24,7 @@ pub fn assess(kind: u8, cover: u8, depth: u16, temperature: i32, slippery: bool)
         return (0, [6, NR, NR, if kind == row::DRY { row::DRY } else { NR }]);
     }
     let coverage = match cover {
-        ..=25 => 25,
+        0..=25 => 25,
         26..=50 => 50,
         51..=75 => 75,
         _ => 100,

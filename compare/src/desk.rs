@@ -15,11 +15,12 @@ struct Place {
 pub fn desk(input: &[u8]) -> Vec<u8> {
     let lines = lines(input);
     let opened = lines.split_first().and_then(|(first, reports)| Some((open(first)?, reports)));
-    let Some((mut board, reports)) = opened else {
-        return b"REFUSED 17\n".to_vec();
+    let (mut board, reports) = match opened {
+        Some(opened) => opened,
+        None => return b"REFUSED 17\n".to_vec(),
     };
     let mut told = vec!["OPEN".to_string()];
-    told.extend(reports.iter().map(|line| report(&mut board, line).to_string()));
+    told.extend(reports.iter().map(|line| report(&mut board, line).err().unwrap_or(0).to_string()));
     told.extend(board.iter().filter_map(|place| place.shown.as_ref()).map(Row::text));
     (told.join("\n") + "\n").into_bytes()
 }
@@ -34,18 +35,18 @@ fn open(line: &[u8]) -> Option<Vec<Place>> {
         .then(|| runways.into_iter().map(|runway| Place { runway, shown: None }).collect())
 }
 
-/// Takes a report that is later than the row shown; 0 or the refusal number.
-fn report(board: &mut [Place], line: &[u8]) -> u8 {
+/// Takes a report that is later than the row shown, or answers the refusal number.
+fn report(board: &mut [Place], line: &[u8]) -> Result<(), u8> {
     if line.len() > LONGEST_MESSAGE {
-        return 5;
+        return Err(5);
     }
-    let Some(row) = Row::read(line) else { return 5 };
-    let Some(place) = board.iter_mut().find(|place| place.runway == row.runway) else { return 18 };
-    if place.shown.as_ref().is_some_and(|shown| row.time <= shown.time) {
-        return 20;
+    let row = Row::read(line).ok_or(5)?;
+    let place = board.iter_mut().find(|place| place.runway == row.runway).ok_or(18)?;
+    if place.shown.as_ref().map_or(false, |shown| row.time <= shown.time) {
+        return Err(20);
     }
     place.shown = Some(row);
-    0
+    Ok(())
 }
 
 #[cfg(test)]

@@ -3,6 +3,7 @@
 //! The messages by hand come with the number the documents give them; the generated ones follow.
 use crate::generate::{self, Rng};
 use crate::reader::{listing, read, same};
+use crate::text::split;
 
 pub const EXAMPLE: &str = "GG XQAAYNYX XQBBYOYX
 120645 XQAAYNYX
@@ -479,9 +480,9 @@ pub fn framed(messages: &[Vec<u8>]) -> Vec<u8> {
 pub fn unframed(mut file: &[u8]) -> Option<Vec<&[u8]>> {
     let mut messages = Vec::new();
     while !file.is_empty() {
-        let (head, rest) = file.split_at_checked(6)?;
+        let (head, rest) = split(file, 6)?;
         let length = std::str::from_utf8(head.strip_suffix(b"\n")?).ok()?.parse().ok()?;
-        let (message, rest) = rest.split_at_checked(length)?;
+        let (message, rest) = split(rest, length)?;
         messages.push(message);
         file = rest.strip_prefix(b"\n")?;
     }

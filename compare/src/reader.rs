@@ -2,7 +2,7 @@
 use crate::assess::agreement;
 use crate::items::{self, Item};
 use crate::row::{read_time, Row};
-use crate::text::{digits, groups, letters, lines};
+use crate::text::{digits, exactly, groups, letters, lines, split};
 
 pub const LONGEST_MESSAGE: usize = 4096;
 pub const MOST_ADDRESSES: usize = 8;
@@ -131,8 +131,7 @@ fn addressing(line: &[u8]) -> Option<([u8; 2], Vec<[u8; 8]>)> {
 
 /// Line 2: the filing time and the originator.
 fn filing(line: &[u8]) -> Option<(u32, [u8; 8])> {
-    let groups = groups(line)?;
-    let [time, originator] = groups.as_slice() else { return None };
+    let [time, originator] = exactly(line)?;
     let time = digits(time, 6)?;
     let real = (1..=31).contains(&(time / 10_000)) && time / 100 % 100 < 24 && time % 100 < 60;
     Some((time, letters(originator)?)).filter(|_| real)
@@ -140,17 +139,15 @@ fn filing(line: &[u8]) -> Option<(u32, [u8; 8])> {
 
 /// Line 3: the letters after SW, the serial, the aerodrome and the time.
 fn heading(line: &[u8]) -> Option<([u8; 2], u32, [u8; 4], u32)> {
-    let groups = groups(line)?;
-    let [number, aerodrome, time] = groups.as_slice() else { return None };
-    let (region, serial) = number.strip_prefix(b"SW")?.split_at_checked(2)?;
+    let [number, aerodrome, time] = exactly(line)?;
+    let (region, serial) = split(number.strip_prefix(b"SW")?, 2)?;
     Some((letters(region)?, read_serial(serial)?, letters(aerodrome)?, read_time(time)?))
 }
 
 /// Line 4: the serial again.
 fn opening(line: &[u8]) -> Option<u32> {
-    let groups = groups(line)?;
-    let [b"(SNOWTAM", serial] = groups.as_slice() else { return None };
-    read_serial(serial)
+    let [word, serial] = exactly(line)?;
+    read_serial(serial).filter(|_| word == b"(SNOWTAM")
 }
 
 fn read_serial(group: &[u8]) -> Option<u32> {

@@ -2,7 +2,7 @@
 //!
 //! A row is cut at its slashes first: five pieces are a short row, nine a full one, and a space beside a slash shows as a
 //! piece that begins or ends with one.
-use crate::text::{digits, groups};
+use crate::text::{digits, groups, split};
 
 pub const DESCRIPTIONS: [&str; 15] = [
     "COMPACTED SNOW",
@@ -92,7 +92,7 @@ pub fn least_depth(description: u16) -> Option<u16> {
 
 impl Runway {
     pub fn read(group: &[u8], greatest: u8) -> Option<Runway> {
-        let (number, side) = group.split_at_checked(2)?;
+        let (number, side) = split(group, 2)?;
         let number = u8::try_from(digits(number, 2)?).ok()?;
         let side = u8::try_from(SIDES.iter().position(|word| word.as_bytes() == side)?).ok()?;
         (1..=greatest).contains(&number).then_some(Runway { number, side })
@@ -111,8 +111,8 @@ impl Third {
             25 | 50 | 75 | 100 => (COMPACTED_SNOW..DRY).contains(&self.description),
             _ => false,
         };
-        let depth =
-            self.depth == NR || least_depth(self.description).is_some_and(|least| (least..=999).contains(&self.depth));
+        let depth = self.depth == NR
+            || least_depth(self.description).map_or(false, |least| (least..=999).contains(&self.depth));
         self.code <= 6 && self.description <= DRY && coverage && depth
     }
 }
@@ -135,28 +135,21 @@ impl Row {
 
     pub fn read(text: &[u8]) -> Option<Row> {
         let pieces = text.split(|&byte| byte == b'/').map(groups).collect::<Option<Vec<_>>>()?;
-        let [head, second, rest @ ..] = pieces.as_slice() else { return None };
-        let ([time, runway, code1], [code2]) = (head.as_slice(), second.as_slice()) else { return None };
+        let pieces: Vec<&[&[u8]]> = pieces.iter().map(Vec::as_slice).collect();
         let nr: &[u8] = b"NR";
-        let (code3, coverages, depths, descriptions) = match rest {
-            [a, b, c] => {
-                let (code3, first) = a.split_first()?;
-                (code3, [nr; 3], [nr; 3], [first, b, c])
+        let (time, runway, codes, coverages, depths, descriptions) = match pieces.as_slice() {
+            [[time, runway, c1], [c2], [c3, first @ ..], middle, last] => {
+                (time, runway, [c1, c2, c3], [&nr; 3], [&nr; 3], [first, middle, last])
             }
-            [a, b, c, d, e, f, g] => {
-                let ([code3, v1], [v2], [v3, d1], [d2]) = (a.as_slice(), b.as_slice(), c.as_slice(), d.as_slice())
-                else {
-                    return None;
-                };
-                let (d3, first) = e.split_first()?;
-                (code3, [*v1, *v2, *v3], [*d1, *d2, *d3], [first, f, g])
+            [[time, runway, c1], [c2], [c3, v1], [v2], [v3, d1], [d2], [d3, first @ ..], middle, last] => {
+                (time, runway, [c1, c2, c3], [v1, v2, v3], [d1, d2, d3], [first, middle, last])
             }
             _ => return None,
         };
         // No description has a digit, so a last group that begins with one can only be the width.
         let [first, middle, last] = descriptions;
         let (last, width) = match last {
-            [words @ .., number] if number.first().is_some_and(u8::is_ascii_digit) => (words, read_width(number)?),
+            [words @ .., number] if number.first().map_or(false, u8::is_ascii_digit) => (words, read_width(number)?),
             words => (words, 0),
         };
         let third = |code, coverage, depth, words| {
@@ -171,13 +164,13 @@ impl Row {
             time: read_time(time)?,
             runway: Runway::read(runway, REPORTED)?,
             thirds: [
-                third(code1, coverages[0], depths[0], first)?,
-                third(code2, coverages[1], depths[1], middle)?,
-                third(code3, coverages[2], depths[2], last)?,
+                third(codes[0], coverages[0], depths[0], first)?,
+                third(codes[1], coverages[1], depths[1], middle)?,
+                third(codes[2], coverages[2], depths[2], last)?,
             ],
             width,
         };
-        let left_out = rest.len() == 3;
+        let left_out = pieces.len() == 5;
         (row.is_valid() && (row.is_short() || !left_out)).then_some(row)
     }
 
@@ -208,7 +201,7 @@ impl Row {
     }
 
     fn joined(&self, part: impl Fn(&Third) -> String) -> String {
-        self.thirds.each_ref().map(part).join("/")
+        self.thirds.iter().map(part).collect::<Vec<_>>().join("/")
     }
 }
 

@@ -20,6 +20,16 @@ pub fn groups(text: &[u8]) -> Option<Vec<&[u8]>> {
     Some(text.split(|&byte| byte == b' ').filter(|group| !group.is_empty()).collect())
 }
 
+/// The groups of a text that has exactly `N`.
+pub fn exactly<const N: usize>(text: &[u8]) -> Option<[&[u8]; N]> {
+    groups(text)?.try_into().ok()
+}
+
+/// The first `count` bytes of a text and the rest; none where it is shorter.
+pub fn split(text: &[u8], count: usize) -> Option<(&[u8], &[u8])> {
+    (count <= text.len()).then(|| text.split_at(count))
+}
+
 /// The number that exactly `count` digits say.
 pub fn digits(group: &[u8], count: usize) -> Option<u32> {
     if group.len() != count || !group.iter().all(u8::is_ascii_digit) {

@@ -81,7 +81,7 @@ pub fn desk_input(rng: &mut Rng) -> Vec<u8> {
             let length: usize = rng.pick(&[4095, 4096, 4096, 4097, 4097, 4098, 9000]);
             if let Some(place) = line.iter().position(|&byte| byte == b' ') {
                 let count = length.saturating_sub(line.len());
-                line.splice(place..place, std::iter::repeat_n(b' ', count));
+                line.splice(place..place, std::iter::repeat(b' ').take(count));
             }
         }
         lines.push(line);

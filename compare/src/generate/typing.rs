@@ -84,7 +84,7 @@ impl Draft {
             }
             let place = rng.pick(&gaps);
             let count = if rng.chance(40) { missing } else { rng.between(1, missing) };
-            message.splice(place..place, std::iter::repeat_n(b' ', count));
+            message.splice(place..place, std::iter::repeat(b' ').take(count));
             missing -= count;
         }
         message
@@ -106,7 +106,7 @@ pub fn loosened(rng: &mut Rng, pace: Pace, line: &[u8]) -> Vec<u8> {
             } else {
                 rng.between(2, pace.most)
             };
-            text.extend(std::iter::repeat_n(b' ', count));
+            text.extend(std::iter::repeat(b' ').take(count));
         }
     }
     text
