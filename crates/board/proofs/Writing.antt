@@ -31,6 +31,7 @@ use Rattle.board.proofs.Runways.{sets-pad}
 abbrev pub rowsOnto : ℕ → List Row → List Row → Rows
 rowsOnto c L rs = record { count = c + length rs; rows = sets L c rs }
 
+-- one law for each case of a step of the loop over places
 pub shown-all : (rows : List Row) → length rows ≤ places → rowsOnto 0 (replicate places blankRow) (reported rows) ≡ makeRows (reported rows)
 shown-all rows h =
     let z : 0 + length (reported rows) ≡ length (reported rows) = omega arith in
