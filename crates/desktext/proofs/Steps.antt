@@ -1,0 +1,103 @@
+-- What the loops over the places and over the lines keep.
+use Prim.Native.Nat.{ℕ, suc, _+_, _-_, _≤_, _<_}
+use mathlib.Core.Path.{_≡_, refl, sym, subst, _∙_, ap}
+use mathlib.Core.List.{List, [], _∷_, _++_}
+use native.Mathlib.Numerals.{add-one}
+use native.Mathlib.Omega.{arith}
+use lib.ListN.{length, take, drop, drop-of-length-le, length-drop}
+use lib.Seq.{drop-cons, drop-drop}
+use borrow.Author.Tests.{eq-eqb, ne-eqb}
+use Rattle.text.specs.declared.Line.{Line}
+use Rattle.text.specs.Held.{firstLine}
+use Rattle.text.specs.Lines.{lines, lineSize, lineStep}
+use Rattle.text.specs.Piece.{bytes}
+use Rattle.text.specs.Put.{Put}
+use Rattle.text.specs.Laws.Held.{part-all}
+use Rattle.text.specs.Laws.Lines.{lines-first, line-within}
+use Rattle.text.specs.Laws.Put.{more}
+use Rattle.board.specs.declared.Board.{Board}
+use Rattle.board.specs.declared.Answer.{Answer}
+use Rattle.board.specs.Report.{rowAt}
+use Rattle.board.specs.Line.{openingLine, reportLine, shownText}
+use Rattle.desktext.specs.declared.Taken.{Taken}
+use Rattle.desktext.specs.Desk.{printed, answerLine, shownRows, answersText, refusedText, openedText, linesText, deskText}
+use Rattle.desktext.specs.Answers.{taken}
+
+-- one place more
+pub rows-more : (i : ℕ) (b : Board) → shownRows (i + 1) b ≡ shownRows i b ++ shownText (rowAt b i)
+unfolding shownRows
+rows-more i b = rw add-one
+
+-- a text that is not empty has a first line
+pub first-lines : (m : List ℕ) → 0 < length m → lines m ≡ take (lineSize m) m ∷ lines (drop (lineStep m) m)
+first-lines [] h = absurd (omega arith)
+first-lines (x ∷ m) h = lines-first x m
+
+-- the report that the first line is
+pub taken-is : (b : Board) (m : List ℕ) (l : Line) → l ≡ firstLine m → (a : Answer) → a ≡ reportLine b (take (l .size) m) → record { answer = a; next = l .next } ≡ taken b m
+taken-is b m l e a f =
+    let s = f ∙ ap (λ (k : Line). reportLine b (take (k .size) m)) e in
+    let n = ap (λ (k : Line). k .next) e in
+    λ i. record { answer = s i; next = n i }
+
+-- the next line starts within the text
+pub next-within : (m : List ℕ) (l : Line) → l ≡ firstLine m → l .next ≤ length m
+next-within m l e = let n = ap (λ (k : Line). k .next) e in let w = line-within m in omega arith
+
+-- what is left, put from here, makes the whole
+abbrev pub Goes : ℕ → List ℕ → List ℕ → ℕ → List ℕ → List ℕ → Type 0
+Goes at whole first here left now′ = (x : List ℕ) (q : ℕ) → Put here left now′ x q → Put at whole first x q
+
+-- one turn of the loop over the lines
+module _ (m : List ℕ) (i : ℕ) (low : i < length m) (b : Board) (s : Taken) (e : s ≡ taken b (take (length m - i) (drop i m))) where
+  abbrev rest : List ℕ
+  rest = drop i m
+
+  here : s ≡ taken b rest
+  here = e ∙ ap (taken b) (part-all i m)
+
+  next-is : s .next ≡ lineStep rest
+  next-is = ap (λ (t : Taken). t .next) here
+
+  pub stays : i + s .next ≤ length m
+  stays = let w = line-within rest in omega (arith, length-drop i m, next-is)
+
+  cut : lines rest ≡ take (lineSize rest) rest ∷ lines (drop (i + s .next) m)
+  cut = first-lines rest (omega (arith, length-drop i m)) ∙ ap (λ (k : List ℕ). take (lineSize rest) rest ∷ lines k) (ap (λ (n : ℕ). drop n rest) (sym next-is) ∙ drop-drop (s .next) i m)
+
+  -- there is one line less
+  pub fewer : length (lines (drop (i + s .next) m)) < length (lines rest)
+  fewer = let z = ap length cut in omega arith
+
+  -- its answer, and then the text of what is left
+  pub answered : answersText b (lines rest) ≡ answerLine (s .answer .refusal) ++ answersText (s .answer .board) (lines (drop (i + s .next) m))
+  unfolding answersText
+  answered = ap (answersText b) cut ∙ ap (λ (t : Taken). answerLine (t .answer .refusal) ++ answersText (t .answer .board) (lines (drop (i + s .next) m))) (sym here)
+
+  pub again : {at r p : ℕ} {whole first now′ then′ : List ℕ} → Goes at whole first r (answersText b (lines rest)) now′ → Put r (answerLine (s .answer .refusal)) now′ then′ p
+      → Goes at whole first p (answersText (s .answer .board) (lines (drop (i + s .next) m))) then′
+  again {r = r} {now′ = now′} go put x q left = go x q (subst (λ (t : List ℕ). Put r t now′ x q) (sym answered) (more put left))
+
+-- no line is left
+pub lines-out : (m : List ℕ) (i : ℕ) (b : Board) → length m ≤ i → answersText b (lines (drop i m)) ≡ shownRows 8 b
+unfolding lines answersText
+lines-out m i b h = ap (λ (k : List ℕ). answersText b (lines k)) (drop-of-length-le m h)
+
+-- no input, and so no line
+pub nothing-opened : (m : List ℕ) → length m ≡ 0 → deskText m ≡ refusedText
+unfolding deskText lines
+nothing-opened [] h = refl
+nothing-opened (x ∷ m) h = absurd (omega arith)
+
+-- the first line, and the answer to it
+module _ (m : List ℕ) (some : length m ≡ 0 → ⊥) (l : Line) (e : l ≡ firstLine m) (a : Answer) (f : a ≡ openingLine (take (l .size) m)) where
+  begun : deskText m ≡ openedText a (lines (drop (l .next) m))
+  unfolding deskText
+  begun = ap linesText (first-lines m (omega arith)) ∙ ap (λ (k : Line). openedText (openingLine (take (k .size) m)) (lines (drop (k .next) m))) (sym e)
+      ∙ ap (λ (k : Answer). openedText k (lines (drop (l .next) m))) (sym f)
+
+  pub not-opened : (a .refusal ≡ 0 → ⊥) → deskText m ≡ refusedText
+  not-opened h = begun ∙ rw (ne-eqb (a .refusal) 0 h)
+
+  pub opened : a .refusal ≡ 0 → deskText m ≡ printed (bytes "OPEN") ++ answersText (a .board) (lines (take (length m - l .next) (drop (l .next) m)))
+  opened h = begun ∙ rw (eq-eqb (a .refusal) 0 h, part-all)
