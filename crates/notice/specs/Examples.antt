@@ -32,7 +32,7 @@ use Rattle.notice.specs.Reading.{agreeing, readNotice, reading}
 use Rattle.body.specs.Rows as Rows
 
 -- lines, each with its LF
-abbrev message : List String → List ℕ
+abbrev pub message : List String → List ℕ
 message [] = []
 message (s ∷ ss) = bytes s ++ (10 ∷ message ss)
 
@@ -41,16 +41,26 @@ abbrev below : List String → List ℕ
 below ss = message ("GG XQAAYNYX XQBBYOYX" ∷ "120645 XQAAYNYX" ∷ "SWXQ0007 XQAA 01120640" ∷ "(SNOWTAM 0007" ∷ "XQAA" ∷ ss)
 
 -- the same with another heading, fourth and fifth line, over one row
-abbrev headed : String → String → String → List ℕ
+abbrev pub headed : String → String → String → List ℕ
 headed l₃ l₄ l₅ = message ("GG XQAAYNYX XQBBYOYX" ∷ "120645 XQAAYNYX" ∷ l₃ ∷ l₄ ∷ l₅ ∷ "01120640 07R 6/6/6 DRY/DRY/DRY)" ∷ [])
 
 -- the message that the example takes
-abbrev typed : List ℕ
+abbrev pub typed : List ℕ
 typed = below (
     "01120610 07L 3/5/5 75/25/NR 12/NR/NR DRY SNOW/FROST/DRY"
     ∷ "01120640 07R  6/6/6 NR/NR/NR NR/NR/NR DRY/DRY/DRY"
     ∷ ""
     ∷ "DRIFTING SNOW.TWY A W SNOWBANK."
+    ∷ "RWY 07R SWEPT 40M.)"
+    ∷ [])
+
+-- and its canonical text
+abbrev pub retyped : List ℕ
+retyped = below (
+    "01120610 07L 3/5/5 75/25/NR 12/NR/NR DRY SNOW/FROST/DRY"
+    ∷ "01120640 07R 6/6/6 DRY/DRY/DRY"
+    ∷ ""
+    ∷ "DRIFTING SNOW. TWY A W SNOWBANK."
     ∷ "RWY 07R SWEPT 40M.)"
     ∷ [])
 
@@ -62,13 +72,7 @@ pub record Examples : Type 0 where
   accepted : refusalOf typed ≡ 0
   rows : reading typed .«record» .rows .count ≡ 2
   items : reading typed .«record» .items .count ≡ 2
-  rewritten : noticeText (reading typed .«record») ≡ below (
-      "01120610 07L 3/5/5 75/25/NR 12/NR/NR DRY SNOW/FROST/DRY"
-      ∷ "01120640 07R 6/6/6 DRY/DRY/DRY"
-      ∷ ""
-      ∷ "DRIFTING SNOW. TWY A W SNOWBANK."
-      ∷ "RWY 07R SWEPT 40M.)"
-      ∷ [])
+  rewritten : noticeText (reading typed .«record») ≡ retyped
   -- "Empty message: 2"; "A missing line 1 or 2 gives 2, a missing line 3 gives 3, any later one 4"
   missing : map refusalOf (
       []

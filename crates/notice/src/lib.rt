@@ -496,8 +496,8 @@ fn put_front(out: &mut [u8], r: Record) -> usize
     aerodrome_under(out, at, aerodrome)
 }
 
-// The text of a valid record, as far as the buffer goes.
-fn put_notice(out: &mut [u8], r: Record) -> usize
+// The text of a record part by part, as far as the buffer goes; that of a valid record is its canonical text.
+pub fn put_notice(out: &mut [u8], r: Record) -> usize
     ensures { λ n. ⌜ Put 0 (partsText r) (now (out .entry)) (now (out .exit)) n ⌝ }
 {
     let rows = r.rows;

@@ -1,0 +1,81 @@
+-- The two cases of a listing and of a rewriting, what the code puts in each, and how long the first line is.
+use Prim.Native.Nat.{ℕ, _<_, _≤_}
+use mathlib.Core.Path.{_≡_, sym, subst, _∙_, ap}
+use mathlib.Core.List.{List, [], _∷_, _++_}
+use mathlib.Core.Bool.{true}
+use lib.ListN.{length, length-append}
+use borrow.Author.Tests.{eq-eqb, ne-eqb, lt-leb, leb-true}
+use native.Mathlib.Omega.{arith}
+use Rattle.text.specs.Put.{Put}
+use Rattle.text.specs.Laws.Base.{and-1, and-2}
+use Rattle.text.specs.Laws.Sizes.{size, digits-size, number-size}
+use Rattle.body.specs.Rows.{rowsOf, validRows}
+use Rattle.notice.specs.declared.Record.{Record}
+use Rattle.notice.specs.declared.Reading.{Reading}
+use Rattle.notice.specs.declared.Written.{Written}
+use Rattle.notice.specs.Record.{validRecord}
+use Rattle.notice.specs.Notice.{noticeText}
+use Rattle.notice.specs.Reading.{reading}
+use Rattle.notice.specs.Writing.{unwritten, Wrote, partsText}
+use Rattle.notice.specs.Theorems.{sound}
+use Rattle.notice.specs.Laws.Text.{parts-text}
+use Rattle.listing.specs.Listing.{disagreeingThirds, counted, acceptedLine, refusedLine, listed, listing}
+use Rattle.listing.specs.Rewriting.{rewriting, rewritten, Rewrote}
+
+-- accepted, or refused
+module _ (a : Reading) where
+  pub listed-accepted : a .refusal ≡ 0 → listed a ≡ acceptedLine (a .«record») ++ noticeText (a .«record»)
+  unfolding listed
+  listed-accepted z = rw (eq-eqb (a .refusal) 0 z)
+
+  pub listed-refused : (a .refusal ≡ 0 → ⊥) → listed a ≡ refusedLine (a .refusal)
+  unfolding listed
+  listed-refused h = rw (ne-eqb (a .refusal) 0 h)
+
+module _ (m : List ℕ) (a : Reading) (e : a ≡ reading m) where
+  -- an accepted message tells a valid record
+  pub read-valid : a .refusal ≡ 0 → validRecord (a .«record») ≡ true
+  read-valid z = sound m (a .«record») (sym e ∙ (λ i. record { refusal = z i; «record» = a .«record» })) .0
+
+  -- what is put for either is the listing
+  pub put-record : {b x : List ℕ} {n : ℕ} → a .refusal ≡ 0 → Put 0 (acceptedLine (a .«record») ++ partsText (a .«record»)) b x n → Put 0 (listing m) b x n
+  unfolding listing
+  put-record {b} {x} {n} z p =
+      let q = ap (λ (t : List ℕ). acceptedLine (a .«record») ++ t) (parts-text (a .«record») (read-valid z)) in
+      subst (λ (t : List ℕ). Put 0 t b x n) (q ∙ (sym (listed-accepted a z) ∙ ap listed e)) p
+
+  pub put-refusal : {b x : List ℕ} {n : ℕ} → (a .refusal ≡ 0 → ⊥) → Put 0 (refusedLine (a .refusal)) b x n → Put 0 (listing m) b x n
+  unfolding listing
+  put-refusal {b} {x} {n} h p = subst (λ (t : List ℕ). Put 0 t b x n) (sym (listed-refused a h) ∙ ap listed e) p
+
+  -- and what is written of either is the rewriting
+  pub rewrote-accepted : {b x : List ℕ} {w : Written} → a .refusal ≡ 0 → Wrote (a .«record») b x w → Rewrote m b x w
+  unfolding rewriting rewritten
+  rewrote-accepted z p = let q = eq-eqb (a .refusal) 0 z in record { answer = rw (← e, q) (p .answer); holds = rw (← e, q) (p .holds) }
+
+  pub rewrote-refused : {b : List ℕ} → (a .refusal ≡ 0 → ⊥) → Rewrote m b b (unwritten (a .refusal))
+  unfolding rewriting rewritten
+  rewrote-refused h = let q = ne-eqb (a .refusal) 0 h in record { answer = rw (← e, q); holds = rw (← e, q) }
+
+-- a space and two digits, or one below 10
+counted-size : (n : ℕ) → length (counted n) ≤ 3
+unfolding counted size
+counted-size n = omega (arith, number-size 1 n)
+
+counted-low : (n : ℕ) → n < 10 → length (counted n) ≤ 2
+unfolding counted size
+counted-low n h = rw (lt-leb 10 n h) (omega (arith, digits-size 1 n))
+
+rows-low : (r : Record) → validRecord r ≡ true → r .rows .count ≤ 8
+unfolding validRecord validRows
+rows-low r v = let k = and-1 _ _ (and-2 _ _ (and-2 _ _ (and-2 _ _ v))) in leb-true (r .rows .count) 8 (and-1 _ _ (and-2 _ _ k))
+
+-- the three counts and the words
+pub accepted-size : (r : Record) → validRecord r ≡ true → length (acceptedLine r) ≤ 17
+unfolding acceptedLine
+accepted-size r v =
+    simp length-append (omega (arith, counted-low (r .rows .count) (omega (arith, rows-low r v)), counted-size (r .items .count), counted-size (disagreeingThirds (rowsOf (r .rows)))))
+
+pub refused-size : (n : ℕ) → length (refusedLine n) ≤ 11
+unfolding refusedLine
+refused-size n = simp length-append (omega (arith, counted-size n))

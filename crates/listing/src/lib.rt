@@ -1,0 +1,111 @@
+// What is told of a message: the lister's lines, and the message written anew.
+ghost use mathlib.Core.Path.{_≡_};
+ghost use Rattle.text.specs.Put.{Put};
+ghost use Rattle.body.specs.Rows.{rowsOf};
+ghost use Rattle.notice.specs.Writing.{partsText};
+ghost use Rattle.listing.specs.Listing.{disagreeingThirds, counted, acceptedLine, refusedLine, listing};
+ghost use Rattle.listing.specs.Rewriting.{Rewrote};
+use body::Rows;
+use notice::Record;
+use notice::Written;
+use notice::put_notice;
+use notice::read;
+use notice::write;
+use row::disagreeing;
+use text::place;
+use text::put;
+use text::put_digits;
+use text::told_behind;
+
+const MOST_ROWS: u8 = 8;
+
+// Those of all rows together.
+fn disagreeing_thirds(r: Rows) -> u8
+    ensures { λ n. ⌜ n ≡ disagreeingThirds (rowsOf r) ⌝ }
+{
+    let rows = r.rows;
+    let mut n: u8 = 0;
+    let mut i: u8 = 0;
+    while i < MOST_ROWS {
+        if r.count <= i {
+            return n;
+        }
+        let row = rows[i as usize];
+        let a = disagreeing(row);
+        n += a.count;
+        i += 1;
+    }
+    n
+}
+
+// A space, and a number in one digit or two.
+fn put_counted(out: &mut [u8], at: usize, n: u8) -> usize
+    ensures { λ r. ⌜ Put at (counted n) (now (out .entry)) (now (out .exit)) r ⌝ }
+{
+    let digits = put(out, at, b" ");
+    if n < 10 {
+        return put_digits(out, digits, 1, n as u32);
+    }
+    put_digits(out, digits, 2, n as u32)
+}
+
+// The first line of an accepted message.
+fn put_accepted(out: &mut [u8], r: Record) -> usize
+    ensures { λ n. ⌜ Put 0 (acceptedLine r) (now (out .entry)) (now (out .exit)) n ⌝ }
+{
+    let rows = r.rows;
+    let items = r.items;
+    let disagreeing = disagreeing_thirds(rows);
+    let at = put(out, 0, b"ACCEPTED");
+    let at = put_counted(out, at, rows.count);
+    let at = put_counted(out, at, items.count);
+    let at = put_counted(out, at, disagreeing);
+    put(out, at, b"\n")
+}
+
+// The only line of a refused one.
+fn put_refused(out: &mut [u8], refusal: u8) -> usize
+    ensures { λ n. ⌜ Put 0 (refusedLine refusal) (now (out .entry)) (now (out .exit)) n ⌝ }
+{
+    let at = put(out, 0, b"REFUSED");
+    let at = put_counted(out, at, refusal);
+    put(out, at, b"\n")
+}
+
+// The record's text in the rest of the buffer from `at` on.
+fn notice_at(out: &mut [u8], at: usize, r: Record) -> usize
+    ensures { λ n. ⌜ Put at (partsText r) (now (out .entry)) (now (out .exit)) n ⌝ }
+{
+    let start = place(out, at);
+    let n = put_notice(&mut out[start..], r);
+    told_behind(out, at, n)
+}
+
+// Puts what the lister prints of a message, as far as the buffer goes, and answers its length.
+pub fn list(message: &[u8], out: &mut [u8]) -> usize
+    ensures { λ r. ⌜ Put 0 (listing (now (message .entry))) (now (out .entry)) (now (out .exit)) r ⌝ }
+{
+    let a = read(message);
+    if a.refusal != 0 {
+        return put_refused(out, a.refusal);
+    }
+    let record = a.record;
+    let at = put_accepted(out, record);
+    notice_at(out, at, record)
+}
+
+// Writes a message anew: the text of its record, or the refusal of its reading, or 14 where the buffer is too short. A refused one touches no
+// byte.
+pub fn canonical(message: &[u8], out: &mut [u8]) -> Written
+    ensures { λ w. ⌜ Rewrote (now (message .entry)) (now (out .entry)) (now (out .exit)) w ⌝ }
+{
+    let a = read(message);
+    if a.refusal != 0 {
+        return Written {
+            refusal: a.refusal,
+            length: 0,
+        };
+    }
+    let record = a.record;
+    write(record, out)
+}
