@@ -494,7 +494,7 @@ pub fn unframed(mut file: &[u8]) -> Option<Vec<&[u8]>> {
 pub fn answers(messages: &[&[u8]]) -> Vec<u8> {
     let mut told = Vec::new();
     for (place, message) in messages.iter().enumerate() {
-        told.extend(format!("#{}\n", place + 1).into_bytes());
+        told.extend(format!("#{:04}\n", place + 1).into_bytes());
         told.extend(listing(message));
         let before = messages[place.saturating_sub(1)];
         told.extend_from_slice(if same(before, message) { b"SAME\n" } else { b"DIFFERENT\n" });
@@ -525,7 +525,7 @@ mod tests {
         let told = answers(&messages);
         let listed = listing(EXAMPLE.as_bytes());
         let expected =
-            [b"#1\n", &listed[..], b"SAME\n14\n#2\nREFUSED 2\nDIFFERENT\n#3\n", &listed, b"DIFFERENT\n14\n"].concat();
+            [b"#0001\n", &listed[..], b"SAME\n14\n#0002\nREFUSED 2\nDIFFERENT\n#0003\n", &listed, b"DIFFERENT\n14\n"].concat();
         assert_eq!(told, expected);
     }
 }

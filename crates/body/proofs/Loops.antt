@@ -8,8 +8,6 @@ use lib.Seq.{drop-cons, getD-take, take-suc, take-all}
 use native.Mathlib.Numerals.{add-one}
 use native.Mathlib.Omega.{arith}
 use Rattle.text.specs.Choice.{_and_, all}
-use Rattle.text.specs.Lines.{closed}
-use Rattle.text.specs.Laws.Base.{true-false}
 use Rattle.row.specs.declared.Row.{Row}
 use Rattle.row.specs.Writing.{rowText}
 use Rattle.body.specs.Rows.{sameRunway, isAmong, newRunways, latestOf, latestFrom, latest, rowsText}
@@ -105,12 +103,6 @@ new-none seen e = ap (newRunways seen) e
 pub latest-none : (t : ℕ) {l : List Row} → l ≡ [] → latestFrom t l ≡ t
 unfolding latestFrom
 latest-none t e = ap (latestFrom t) e
-
--- a line that `)` closes has a byte
-pub closed-some : (l : List ℕ) → closed l ≡ true → 0 < length l
-unfolding closed
-closed-some [] h = true-false (sym h)
-closed-some (x ∷ l) h = omega arith
 
 -- the rows' texts, one more at a time
 texts-join : (a b : List Row) → rowsText (a ++ b) ≡ rowsText a ++ rowsText b

@@ -14,7 +14,6 @@ use Rattle.text.specs.Held.{firstLine}
 use Rattle.text.specs.Lines.{lines, lineSize, lineStep, closed, front, opened}
 use Rattle.text.specs.declared.Line.{Line}
 use Rattle.text.specs.Laws.Arrays.{take-front}
-use Rattle.text.specs.Laws.Base.{true-false}
 use Rattle.text.specs.Laws.Held.{part-all}
 use Rattle.text.specs.Laws.Lines.{lines-first, front-part, closed-is}
 use Rattle.items.specs.declared.Item.{Item}
@@ -28,12 +27,6 @@ use Rattle.body.specs.Rows.{more}
 use Rattle.body.specs.Remarks.{makeItems, makeLanguage, remarks, readLanguageLine, readRemarks}
 use Rattle.remarks.specs.Held.{noRemarks, remarksAnswer, ending, lastItems, lastLanguage, nextLanguage, itemsStep}
 use Rattle.text.specs.Laws.Lines.{size-within}
-
--- a line that `)` closes has a byte
-pub closed-some : (l : List ℕ) → closed l ≡ true → 0 < length l
-unfolding closed
-closed-some [] h = true-false (sym h)
-closed-some (x ∷ l) h = omega arith
 
 -- the text of a line: all of it but the `)` that closes
 module _ (l : List ℕ) where

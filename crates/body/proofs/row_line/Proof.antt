@@ -1,6 +1,6 @@
 use Rattle.text.specs.Laws.Lines.{front-part}
 use Rattle.body.specs.Held.{rowLine}
-use Rattle.body.proofs.Loops.{closed-some}
+use Rattle.text.specs.Laws.Lines.{closed-some}
 use lib.ListN.{length, take, length-take}
 use native.Mathlib.Omega.{arith}
 use mathlib.Core.Path.{_≡_, refl, sym, _∙_, ap}

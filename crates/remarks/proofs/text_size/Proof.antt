@@ -1,6 +1,7 @@
+use Rattle.text.specs.Laws.Lines.{closed-some}
 use mathlib.Core.Path.{sym, _∙_}
 use native.Mathlib.Omega.{arith}
-use Rattle.remarks.proofs.Steps.{closed-some, closed-size, open-size}
+use Rattle.remarks.proofs.Steps.{closed-size, open-size}
 use borrow.Author.Needs.{needs}
 use Rattle.remarks.proofs.text_size.Statement.{statement}
 use Rattle.remarks.proofs.text_size.Tie as tie
