@@ -1,24 +1,8 @@
-//! A second reader of document 01, to compare the proved library with.
-//!
-//! It is written from the document alone and by another plan than the library: a message is cut into lines and groups
-//! first, and judged then.
-mod assess;
-mod desk;
-mod edges;
-mod generate;
-mod items;
-#[cfg(feature = "library")]
-mod library;
-mod reader;
-mod report;
-mod row;
-#[cfg(feature = "library")]
-mod run;
-mod selfcheck;
-mod text;
-
+//! The second reader as a program.
 use std::io::{self, Read, Write};
 use std::process::ExitCode;
+
+use compare::{desk, edges, generate, reader, selfcheck};
 
 const USAGE: &str = "\
 compare list < message           what the lister prints
@@ -59,7 +43,7 @@ fn answer(words: &[&str]) -> io::Result<ExitCode> {
 
 #[cfg(feature = "library")]
 fn run(count: usize, seed: u64) -> io::Result<ExitCode> {
-    Ok(exit(run::run(count, seed)))
+    Ok(exit(compare::run::run(count, seed)))
 }
 
 #[cfg(not(feature = "library"))]

@@ -1,0 +1,130 @@
+//! What is measured: three works, done by the proved library, the tuned reader, or a loop that only touches the bytes.
+use std::hint::black_box;
+
+use crate::fast;
+use crate::inputs::Input;
+#[cfg(feature = "library")]
+use crate::library;
+
+#[derive(Clone, Copy, PartialEq, Eq)]
+pub enum Doer {
+    #[cfg(feature = "library")]
+    Library,
+    Fast,
+    Loop,
+}
+
+#[derive(Clone, Copy, PartialEq, Eq)]
+pub enum Work {
+    Read,
+    /// Reading and writing again.
+    Canonical,
+    /// Sameness of two typings.
+    Same,
+}
+
+pub const DOERS: &[Doer] = &[
+    #[cfg(feature = "library")]
+    Doer::Library,
+    Doer::Fast,
+    Doer::Loop,
+];
+
+pub const WORKS: [Work; 3] = [Work::Read, Work::Canonical, Work::Same];
+
+impl Doer {
+    pub fn name(self) -> &'static str {
+        match self {
+            #[cfg(feature = "library")]
+            Doer::Library => "library",
+            Doer::Fast => "fast",
+            Doer::Loop => "loop",
+        }
+    }
+}
+
+impl Work {
+    pub fn name(self) -> &'static str {
+        match self {
+            Work::Read => "read",
+            Work::Canonical => "canonical",
+            Work::Same => "same",
+        }
+    }
+
+    /// How many bytes of the input it is given.
+    pub fn bytes(self, input: &Input) -> usize {
+        match self {
+            Work::Same => input.message.len() + input.other.len(),
+            _ => input.message.len(),
+        }
+    }
+}
+
+/// What the works are done in; made once, so that its making is not measured.
+pub struct Room {
+    record: fast::Record,
+    text: [u8; 4096],
+}
+
+impl Room {
+    pub fn new() -> Box<Room> {
+        Box::new(Room { record: fast::Record::BLANK, text: [0; 4096] })
+    }
+}
+
+/// Each byte is loaded once, alone: a volatile load is neither left out nor joined with others.
+#[inline(never)]
+fn touch(bytes: &[u8]) -> u64 {
+    bytes.iter().map(|byte| u64::from(unsafe { std::ptr::read_volatile(byte) })).sum()
+}
+
+/// Does a work `times` over. Neither the input nor the answer is known to the optimizer.
+pub fn repeat(doer: Doer, work: Work, input: &Input, room: &mut Room, times: usize) {
+    let Room { record, text } = room;
+    let message = || black_box(&input.message[..]);
+    let other = || black_box(&input.other[..]);
+    match (doer, work) {
+        #[cfg(feature = "library")]
+        (Doer::Library, Work::Read) => over(times, || library::read(message())),
+        #[cfg(feature = "library")]
+        (Doer::Library, Work::Canonical) => over(times, || library::canonical(message(), black_box(&mut text[..]))),
+        #[cfg(feature = "library")]
+        (Doer::Library, Work::Same) => over(times, || library::same(message(), other())),
+        (Doer::Fast, Work::Read) => over(times, || fast::read(message(), black_box(record))),
+        (Doer::Fast, Work::Canonical) => over(times, || fast::canonical(message(), black_box(&mut text[..]))),
+        (Doer::Fast, Work::Same) => over(times, || fast::same(message(), other())),
+        (Doer::Loop, Work::Read | Work::Canonical) => over(times, || touch(message())),
+        (Doer::Loop, Work::Same) => over(times, || touch(message()) + touch(other())),
+    }
+}
+
+fn over<T>(times: usize, mut work: impl FnMut() -> T) {
+    for _ in 0..times {
+        black_box(work());
+    }
+}
+
+/// Whether every doer gives the answers that the input was made for.
+pub fn agrees(input: &Input) -> bool {
+    let mut text = [0; 4096];
+    let mut record = fast::Record::BLANK;
+    let refusal = fast::read(&input.message, &mut record);
+    let (number, length) = fast::canonical(&input.message, &mut text);
+    let same = fast::same(&input.message, &input.other);
+    let fits = (refusal, number, same) == (input.refusal, input.refusal, input.refusal == 0);
+    #[cfg(feature = "library")]
+    {
+        let mut other = [0; 4096];
+        return fits
+            && library::read(&input.message) == refusal
+            && library::canonical(&input.message, &mut other) == (number, length)
+            && other[..length] == text[..length]
+            && library::same(&input.message, &input.other) == same;
+    }
+    #[cfg(not(feature = "library"))]
+    {
+        let _ = length;
+        fits
+    }
+}

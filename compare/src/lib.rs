@@ -1,0 +1,20 @@
+//! A second reader of document 01, to compare the proved library with.
+//!
+//! It is written from the document alone and by another plan than the library: a message is cut into lines and groups
+//! first, and judged then. The program is in `main.rs`; another program may use the parts as well.
+#![allow(clippy::new_without_default, clippy::should_implement_trait)]
+
+mod assess;
+pub mod desk;
+pub mod edges;
+pub mod generate;
+pub mod items;
+#[cfg(feature = "library")]
+mod library;
+pub mod reader;
+pub mod report;
+pub mod row;
+#[cfg(feature = "library")]
+pub mod run;
+pub mod selfcheck;
+mod text;
