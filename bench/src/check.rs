@@ -293,6 +293,42 @@ fn pair(rng: &mut Rng, report: &mut Report) -> bool {
     expected
 }
 
+/// What a reader that looks ahead may take for more of the line: the ends of a row, and what the next line starts with.
+const ROW_ENDS: [&str; 9] = [
+    "6/6/6 NR/NR/NR",
+    "6/6/6 NR/NR/NR 30",
+    "6/6/6 NR/NR/DRY",
+    "6/6/6 NR/NR/WET",
+    "6/6/6 NR/NR/NR)",
+    "5/5/5 25/25/25 NR/NR/NR WET/WET/WET SNOW",
+    "5/5/5 25/25/25 NR/NR/NR WET/WET/DRY SNOW 45",
+    "5/5/5 25/25/25 NR/NR/NR",
+    "5/5/5 25/25/25",
+];
+const LINE_STARTS: [&str; 14] =
+    ["", "/", "//", "0/", "/NR", "NR/NR/NR", "30", " 30", "SNOW", "ICE", "ON TOP OF ICE", ")", "\r", "."];
+
+/// Every end of a first and of an eighth row before every start of a line.
+fn line_ends(report: &mut Report) -> usize {
+    let mut count = 0;
+    for earlier in [0, 7] {
+        let rows: String = (1..=earlier).map(|n| format!("01120640 {n:02} 6/6/6 DRY/DRY/DRY\n")).collect();
+        let front = "GG XQAAYNYX\n120645 XQAAYNYX\nSWXQ0007 XQAA 01120640\n(SNOWTAM 0007\nXQAA\n";
+        for (end, start) in ROW_ENDS.iter().flat_map(|end| LINE_STARTS.map(|start| (end, start))) {
+            for line_end in ["", "\n", "\r\n", "\n\n"] {
+                let message = format!("{front}{rows}01120640 18 {end}{line_end}{start}\n");
+                let expected = reader::read(message.as_bytes()).err().unwrap_or(0);
+                let told = fast::read(message.as_bytes(), &mut Record::BLANK.clone());
+                if told != expected {
+                    report.differ("a line's end", message.as_bytes(), &expected.to_string(), &told.to_string());
+                }
+                count += 1;
+            }
+        }
+    }
+    count
+}
+
 /// Whether nothing differed.
 pub fn run(count: usize, seed: u64) -> bool {
     let mut rng = Rng::new(seed);
@@ -311,6 +347,7 @@ pub fn run(count: usize, seed: u64) -> bool {
     let pairs = count / 4;
     let equal = (0..pairs).filter(|_| pair(&mut rng, &mut report)).count();
     println!("pairs: {pairs}, {equal} of them tell the same");
+    println!("ends of rows before starts of lines: {}", line_ends(&mut report));
     println!("{count} messages, {} differences", report.differences());
     report.differences() == 0
 }

@@ -1,4 +1,4 @@
-//! Notices read, written and compared with nothing in mind but speed: one pass over the bytes, no allocation.
+//! Notices read, written and compared with speed in mind: one pass over the bytes, no allocation, nothing unsafe.
 //!
 //! The record is the proved library's, field by field, so that both do the same work.
 mod read;
@@ -174,7 +174,7 @@ impl Record {
     }
 }
 
-/// The descriptions' numbers that the rules speak of.
+/// The descriptions by number.
 const NR: u8 = 0;
 const COMPACTED_SNOW: u8 = 1;
 const DRY_SNOW: u8 = 2;
@@ -240,7 +240,7 @@ pub fn same(one: &[u8], other: &[u8]) -> bool {
 
 /// Writes a valid record. A buffer that takes the longest text takes this one; any other is tried beside it.
 fn written(record: &Record, out: &mut [u8]) -> (u8, usize) {
-    if out.len() >= LONGEST_TEXT {
+    if let Some(out) = out.first_chunk_mut() {
         return (0, write::notice(record, out));
     }
     let mut text = [0; LONGEST_TEXT];

@@ -32,7 +32,6 @@ fn answer(words: &[&str]) -> Option<bool> {
     }
 }
 
-/// Only what gives the right answers is measured.
 fn measured(rounds: usize) -> Option<bool> {
     let wrong = inputs::inputs().iter().find(|input| !agrees(input)).map(|input| input.name);
     match wrong {

@@ -4,8 +4,13 @@ use std::time::Instant;
 use crate::inputs::{inputs, Input};
 use crate::work::{repeat, Room, Work, DOERS, WORKS};
 
-/// How long one doer's turn lasts, as far as whole works allow it.
+/// How long one doer's turn lasts, in nanoseconds, as far as whole works allow it.
 const TURN: f64 = 20_000.0;
+
+const NOTE: &str = "\
+Times are of one message (of both for `same`), taken in turns within one process. The buffer for the text is 4,096 bytes
+long and is not cleared between calls; the tuned reader leaves zeros in its record wherever a notice uses nothing.
+";
 
 /// Nanoseconds that one work takes, out of `times` in a row.
 fn turn(doer: usize, work: Work, input: &Input, room: &mut Room, times: usize) -> f64 {
@@ -34,7 +39,7 @@ fn rounds(work: Work, input: &Input, room: &mut Room, count: usize) -> Vec<Vec<f
     taken
 }
 
-/// Every doer but the first beside each one after it: library/fast, library/loop, fast/loop.
+/// Each doer beside those after it: library/fast, library/loop, fast/loop.
 fn pairs() -> Vec<(usize, usize)> {
     (0..DOERS.len()).flat_map(|one| (one + 1..DOERS.len()).map(move |other| (one, other))).collect()
 }
@@ -78,6 +83,7 @@ pub fn run(count: usize) {
             measured.push((input, work, rounds(work, input, &mut room, count)));
         }
     }
+    println!("{NOTE}");
     for (what, place) in [("median", count / 2), ("best", 0)] {
         print_head(&format!("{what} of {count} rounds"));
         for (input, work, taken) in &measured {

@@ -1,6 +1,8 @@
 //! What is measured: three works, done by the proved library, the tuned reader, or a loop that only touches the bytes.
 use std::hint::black_box;
 
+use compare::reader;
+
 use crate::fast;
 use crate::inputs::Input;
 #[cfg(feature = "library")]
@@ -73,10 +75,14 @@ impl Room {
     }
 }
 
-/// Each byte is loaded once, alone: a volatile load is neither left out nor joined with others.
+/// Each byte is loaded once, alone: a volatile load is neither left out nor joined with others. Eight go to a turn of the
+/// loop, so that the turns and where the loop happens to be placed matter little.
 #[inline(never)]
 fn touch(bytes: &[u8]) -> u64 {
-    bytes.iter().map(|byte| u64::from(unsafe { std::ptr::read_volatile(byte) })).sum()
+    let load = |byte: &u8| u64::from(unsafe { std::ptr::read_volatile(byte) });
+    let (eights, rest) = bytes.as_chunks::<8>();
+    let sum: u64 = eights.iter().map(|eight| eight.iter().map(load).sum::<u64>()).sum();
+    sum + rest.iter().map(load).sum::<u64>()
 }
 
 /// Does a work `times` over. Neither the input nor the answer is known to the optimizer.
@@ -105,26 +111,26 @@ fn over<T>(times: usize, mut work: impl FnMut() -> T) {
     }
 }
 
-/// Whether every doer gives the answers that the input was made for.
+/// What a doer answers to an input: the refusal, the refusal and text of writing again, and sameness. The loop answers
+/// nothing.
+fn answers(doer: Doer, Input { message, other, .. }: &Input) -> Option<(u8, (u8, Vec<u8>), bool)> {
+    let mut out = vec![0; 4096];
+    let (read, (refusal, length), same) = match doer {
+        #[cfg(feature = "library")]
+        Doer::Library => (library::read(message), library::canonical(message, &mut out), library::same(message, other)),
+        Doer::Fast => {
+            let read = fast::read(message, &mut fast::Record::BLANK.clone());
+            (read, fast::canonical(message, &mut out), fast::same(message, other))
+        }
+        Doer::Loop => return None,
+    };
+    out.truncate(length);
+    Some((read, (refusal, out), same))
+}
+
+/// Whether every doer gives the second reader's answers: only then are its times worth something.
 pub fn agrees(input: &Input) -> bool {
-    let mut text = [0; 4096];
-    let mut record = fast::Record::BLANK;
-    let refusal = fast::read(&input.message, &mut record);
-    let (number, length) = fast::canonical(&input.message, &mut text);
-    let same = fast::same(&input.message, &input.other);
-    let fits = (refusal, number, same) == (input.refusal, input.refusal, input.refusal == 0);
-    #[cfg(feature = "library")]
-    {
-        let mut other = [0; 4096];
-        return fits
-            && library::read(&input.message) == refusal
-            && library::canonical(&input.message, &mut other) == (number, length)
-            && other[..length] == text[..length]
-            && library::same(&input.message, &input.other) == same;
-    }
-    #[cfg(not(feature = "library"))]
-    {
-        let _ = length;
-        fits
-    }
+    let text = reader::read(&input.message).map(|record| reader::write(&record)).unwrap_or_default();
+    let expected = (input.refusal, (input.refusal, text), input.refusal == 0);
+    DOERS.iter().filter_map(|&doer| answers(doer, input)).all(|answers| answers == expected)
 }

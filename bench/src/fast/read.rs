@@ -45,9 +45,16 @@ impl<'m> Reader<'m> {
         Some(taken)
     }
 
+    /// A space at a word's end stands for a whole gap.
     #[inline(always)]
     fn word<const N: usize>(&mut self, word: &[u8; N]) -> Option<()> {
-        (self.take()? == word).then_some(())
+        if self.take()? != word {
+            return None;
+        }
+        if word[N - 1] == b' ' && self.next_is(b' ') {
+            self.more_spaces();
+        }
+        Some(())
     }
 
     #[inline(always)]
@@ -58,17 +65,15 @@ impl<'m> Reader<'m> {
     /// Any spaces there are; whether there was one.
     #[inline(always)]
     fn spaces(&mut self) -> bool {
-        if !self.next_is(b' ') {
-            return false;
-        }
-        self.rest = &self.rest[1..];
-        if self.next_is(b' ') {
-            self.more_spaces();
-        }
-        true
+        self.next_is(b' ') && self.gap().is_some()
     }
 
-    /// Eight at a time: a typist's tabulation may be long.
+    #[inline(always)]
+    fn gap(&mut self) -> Option<()> {
+        self.word(b" ")
+    }
+
+    /// Eight at a time and, where there are many, 32.
     fn more_spaces(&mut self) {
         while let Some((chunk, rest)) = self.rest.split_first_chunk() {
             let others = u64::from_le_bytes(*chunk) ^ u64::from_le_bytes([b' '; 8]);
@@ -78,15 +83,13 @@ impl<'m> Reader<'m> {
                 return;
             }
             self.rest = rest;
+            while let Some(rest) = self.rest.strip_prefix(&[b' '; 32]) {
+                self.rest = rest;
+            }
         }
         while let [b' ', rest @ ..] = self.rest {
             self.rest = rest;
         }
-    }
-
-    #[inline(always)]
-    fn gap(&mut self) -> Option<()> {
-        self.spaces().then_some(())
     }
 
     #[inline(always)]
@@ -195,8 +198,7 @@ impl Reader<'_> {
     }
 
     fn opening(&mut self) -> Option<u16> {
-        self.word(b"(SNOWTAM")?;
-        self.gap()?;
+        self.word(b"(SNOWTAM ")?;
         let serial = self.serial()?;
         self.line_end()?;
         Some(serial)
@@ -246,15 +248,14 @@ impl Reader<'_> {
             if self.empty_line() {
                 return if rows.count == 0 { Err(4) } else { Ok((false, latest)) };
             }
-            let place = rows.rows.get_mut(usize::from(rows.count)).ok_or(6)?;
-            let (row, closed) = self.row().ok_or(5)?;
+            let row = rows.rows.get_mut(usize::from(rows.count)).ok_or(6)?;
+            let closed = self.row(row).ok_or(5)?;
             let runway = 1 << (4 * row.number + row.side);
             if seen & runway != 0 {
                 return Err(7);
             }
             seen |= runway;
             latest = latest.max(row.time);
-            *place = row;
             rows.count += 1;
             if closed {
                 return Ok((true, latest));
@@ -262,11 +263,11 @@ impl Reader<'_> {
         }
     }
 
-    /// A row, and whether it closes the notice.
-    fn row(&mut self) -> Option<(Row, bool)> {
-        let time = self.time()?;
+    /// A row; whether it closes the notice.
+    fn row(&mut self, row: &mut Row) -> Option<bool> {
+        row.time = self.time()?;
         self.gap()?;
-        let (number, side) = self.runway(HIGHEST_REPORTED)?;
+        (row.number, row.side) = self.runway(HIGHEST_REPORTED)?;
         self.gap()?;
         let [a, b'/', b, b'/', c] = *self.take()? else { return None };
         let codes = [a, b, c].map(|digit| digit.wrapping_sub(b'0'));
@@ -274,7 +275,6 @@ impl Reader<'_> {
             return None;
         }
         self.gap()?;
-        let mut row = Row { time, number, side, ..Row::BLANK };
         let mut left_out = true;
         let mut coverages = [0; 3];
         let mut depths = [0; 3];
@@ -293,9 +293,7 @@ impl Reader<'_> {
         } else {
             self.descriptions()?
         };
-        if spaced {
-            row.width = self.digits::<2>().filter(|&width| width > 0)? as u8;
-        }
+        row.width = if spaced { self.digits::<2>().filter(|&width| width > 0)? as u8 } else { 0 };
         let closed = self.ending()?;
         for (place, third) in row.thirds.iter_mut().enumerate() {
             *third = Third {
@@ -306,7 +304,7 @@ impl Reader<'_> {
             };
         }
         let fits = row.thirds.iter().all(valid_third) && (!left_out || row.is_short());
-        fits.then_some((row, closed))
+        fits.then_some(closed)
     }
 
     #[inline(always)]
@@ -401,15 +399,13 @@ impl Reader<'_> {
                 return self.snow(WET, WET_SNOW, WET_SNOW_ON_COMPACTED_SNOW, WET_SNOW_ON_ICE);
             }
             [b'W', ..] => {
-                self.word(b"WATER")?;
-                self.gap()?;
+                self.word(b"WATER ")?;
                 self.on_top_of()?;
                 self.compacted_snow().map(|()| WATER_ON_COMPACTED_SNOW)
             }
             [b'S', b'L', ..] => self.word(b"SLUSH").map(|()| SLUSH),
             [b'S', ..] => {
-                self.word(b"STANDING")?;
-                self.gap()?;
+                self.word(b"STANDING ")?;
                 self.word(b"WATER").map(|()| STANDING_WATER)
             }
             [b'C', ..] => self.compacted_snow().map(|()| COMPACTED_SNOW),
@@ -447,17 +443,13 @@ impl Reader<'_> {
     }
 
     fn on_top_of(&mut self) -> Option<()> {
-        self.word(b"ON")?;
-        self.gap()?;
-        self.word(b"TOP")?;
-        self.gap()?;
-        self.word(b"OF")?;
-        self.gap()
+        self.word(b"ON ")?;
+        self.word(b"TOP ")?;
+        self.word(b"OF ")
     }
 
     fn compacted_snow(&mut self) -> Option<()> {
-        self.word(b"COMPACTED")?;
-        self.gap()?;
+        self.word(b"COMPACTED ")?;
         self.word(b"SNOW")
     }
 
@@ -467,10 +459,11 @@ impl Reader<'_> {
         let mut count = 0;
         loop {
             let (earlier, places) = items.items.split_at_mut(count);
-            let place = places.first_mut()?;
-            *place = self.item()?;
+            let item = places.first_mut()?;
+            *item = Item::BLANK;
+            item.letter = self.item(item)?;
             self.word(b".")?;
-            if !order.takes(place, earlier) {
+            if !order.takes(item, earlier) {
                 return None;
             }
             count += 1;
@@ -482,20 +475,17 @@ impl Reader<'_> {
         }
     }
 
-    /// An item without its full stop.
-    fn item(&mut self) -> Option<Item> {
+    /// Fills a blank item and gives its letter; the full stop is left.
+    fn item(&mut self, item: &mut Item) -> Option<u8> {
         match self.rest {
-            [b'R', ..] => self.runway_item(),
-            [b'T', ..] => self.taxiways(),
+            [b'R', ..] => self.runway_item(item),
+            [b'T', ..] => self.taxiways(item),
             [b'D', ..] => {
-                self.word(b"DRIFTING")?;
-                self.gap()?;
-                self.word(b"SNOW")?;
-                Some(Item { letter: b'J', ..Item::BLANK })
+                self.word(b"DRIFTING ")?;
+                self.word(b"SNOW").map(|()| b'J')
             }
             [b'A', b'L', ..] => {
-                self.word(b"ALL")?;
-                self.gap()?;
+                self.word(b"ALL ")?;
                 let letter = if self.next_is(b'T') {
                     self.word(b"TWY")?;
                     b'P'
@@ -504,61 +494,50 @@ impl Reader<'_> {
                     b'R'
                 };
                 self.gap()?;
-                self.word(b"POOR")?;
-                Some(Item { letter, ..Item::BLANK })
+                self.word(b"POOR").map(|()| letter)
             }
-            [b'A', ..] => self.apron(),
+            [b'A', ..] => self.apron(item),
             _ => None,
         }
     }
 
-    fn runway_item(&mut self) -> Option<Item> {
-        self.word(b"RWY")?;
+    fn runway_item(&mut self, item: &mut Item) -> Option<u8> {
+        self.word(b"RWY ")?;
+        (item.number, item.side) = self.runway(HIGHEST_REDUCED)?;
         self.gap()?;
-        let (number, side) = self.runway(HIGHEST_REDUCED)?;
-        self.gap()?;
-        let mut item = Item { number, side, ..Item::BLANK };
-        match self.rest.first()? {
+        let letter = match self.rest.first()? {
             b'R' => {
-                self.word(b"REDUCED")?;
-                self.gap()?;
-                self.word(b"TO")?;
-                self.gap()?;
-                item.letter = b'I';
+                self.word(b"REDUCED ")?;
+                self.word(b"TO ")?;
                 item.amount = self.length()?;
-                return Some(item);
+                return Some(b'I');
             }
             b'L' => {
-                self.word(b"LOOSE")?;
-                self.gap()?;
+                self.word(b"LOOSE ")?;
                 self.word(b"SAND")?;
-                item.letter = b'K';
+                b'K'
             }
             b'C' => {
-                self.word(b"CHEMICALLY")?;
-                self.gap()?;
+                self.word(b"CHEMICALLY ")?;
                 self.word(b"TREATED")?;
-                item.letter = b'L';
+                b'L'
             }
             b'S' => {
-                self.word(b"SNOWBANK")?;
-                self.gap()?;
-                item.letter = b'M';
+                self.word(b"SNOWBANK ")?;
                 item.edge = self.edge()?;
                 item.amount = self.digits::<2>().filter(|&distance| distance > 0)? as u16;
                 self.gap()?;
-                self.word(b"FM")?;
-                self.gap()?;
+                self.word(b"FM ")?;
                 self.word(b"CL")?;
+                b'M'
             }
             _ => {
-                self.word(b"ADJ")?;
-                self.gap()?;
+                self.word(b"ADJ ")?;
                 self.word(b"SNOWBANK")?;
-                item.letter = b'O';
+                b'O'
             }
-        }
-        (number <= HIGHEST_REPORTED).then_some(item)
+        };
+        (item.number <= HIGHEST_REPORTED).then_some(letter)
     }
 
     /// 100 to 9999 without a leading zero.
@@ -584,50 +563,50 @@ impl Reader<'_> {
         Some(edge)
     }
 
-    fn taxiways(&mut self) -> Option<Item> {
-        let mut item = Item::BLANK;
-        self.word(b"TWY")?;
-        self.gap()?;
+    fn taxiways(&mut self, item: &mut Item) -> Option<u8> {
+        self.word(b"TWY ")?;
         loop {
             // A taxiway is at most three characters long, and the word that ends the list longer.
             let &[a, b, c, d] = self.rest.first_chunk()?;
-            let name = match (is_name(b), is_name(c), is_name(d)) {
-                (false, _, _) => [a, 0, 0],
-                (true, false, _) => [a, b, 0],
-                (true, true, false) => [a, b, c],
+            let (name, length) = match (is_name(b), is_name(c), is_name(d)) {
+                (false, _, _) => ([a, 0, 0], 1),
+                (true, false, _) => ([a, b, 0], 2),
+                (true, true, false) => ([a, b, c], 3),
                 (true, true, true) => break,
             };
-            let (earlier, places) = item.taxiways.split_at_mut(3 * usize::from(item.count));
-            let repeated = earlier.chunks_exact(3).any(|other| other == name);
-            if !a.is_ascii_uppercase() || repeated {
+            let (places, _) = item.taxiways.as_chunks_mut::<3>();
+            let (earlier, places) = places.split_at_mut(item.count.into());
+            if !a.is_ascii_uppercase() || earlier.contains(&name) {
                 return None;
             }
-            places.first_chunk_mut().map(|place| *place = name)?;
+            *places.first_mut()? = name;
             item.count += 1;
-            self.rest = &self.rest[name.iter().filter(|&&byte| byte > 0).count()..];
+            self.rest = &self.rest[length..];
             self.gap()?;
         }
-        item.letter = if self.next_is(b'P') {
-            self.word(b"POOR")?;
-            b'P'
+        if item.count == 0 {
+            return None;
+        }
+        if self.next_is(b'P') {
+            self.word(b"POOR").map(|()| b'P')
         } else {
-            self.word(b"SNOWBANK")?;
-            b'N'
-        };
-        (item.count > 0).then_some(item)
+            self.word(b"SNOWBANK").map(|()| b'N')
+        }
     }
 
-    fn apron(&mut self) -> Option<Item> {
-        let mut item = Item { letter: b'R', ..Item::BLANK };
-        self.word(b"APRON")?;
+    fn apron(&mut self, item: &mut Item) -> Option<u8> {
+        self.word(b"APRON ")?;
+        let mut length = 0;
+        for (place, &byte) in item.name.iter_mut().zip(self.rest) {
+            if !is_name(byte) {
+                break;
+            }
+            *place = byte;
+            length += 1;
+        }
+        self.rest = &self.rest[length..];
         self.gap()?;
-        let length = self.rest.iter().take(item.name.len()).take_while(|&&byte| is_name(byte)).count();
-        let (name, rest) = self.rest.split_at(length);
-        item.name[..length].copy_from_slice(name);
-        self.rest = rest;
-        self.gap()?;
-        self.word(b"POOR")?;
-        Some(item)
+        self.word(b"POOR").map(|()| b'R')
     }
 
     /// The plain language line, which closes the notice. Only where it does not is its end looked for: without its `)` it

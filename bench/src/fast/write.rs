@@ -1,8 +1,8 @@
 //! Writing. Words are put as arrays, so that each is a few stores and no call.
 use super::*;
 
-/// Puts the text of a valid record and gives its length; there is room for the longest text.
-pub fn notice(record: &Record, out: &mut [u8]) -> usize {
+/// Puts the text of a valid record and gives its length.
+pub fn notice(record: &Record, out: &mut [u8; LONGEST_TEXT]) -> usize {
     let mut writer = Writer { out, length: 0 };
     writer.front(record);
     for (place, row) in record.rows().iter().enumerate() {
@@ -29,8 +29,14 @@ pub fn notice(record: &Record, out: &mut [u8]) -> usize {
     writer.length
 }
 
+/// The last two digits of a number.
+#[inline(always)]
+fn pair(number: u32) -> [u8; 2] {
+    [b'0' + (number / 10 % 10) as u8, b'0' + (number % 10) as u8]
+}
+
 struct Writer<'b> {
-    out: &'b mut [u8],
+    out: &'b mut [u8; LONGEST_TEXT],
     length: usize,
 }
 
@@ -48,19 +54,19 @@ impl Writer<'_> {
 
     #[inline(always)]
     fn two_digits(&mut self, number: u32) {
-        self.put(&[b'0' + (number / 10 % 10) as u8, b'0' + (number % 10) as u8]);
+        self.put(&pair(number));
     }
 
     #[inline(always)]
     fn four_digits(&mut self, number: u32) {
-        self.two_digits(number / 100);
-        self.two_digits(number % 100);
+        let [[a, b], [c, d]] = [number / 100, number].map(pair);
+        self.put(&[a, b, c, d]);
     }
 
     #[inline(always)]
     fn time(&mut self, time: u32) {
-        self.four_digits(time / 10_000);
-        self.four_digits(time % 10_000);
+        let [[a, b], [c, d], [e, f], [g, h]] = [time / 1_000_000, time / 10_000, time / 100, time].map(pair);
+        self.put(&[a, b, c, d, e, f, g, h]);
     }
 
     #[inline(always)]
@@ -84,7 +90,7 @@ impl Writer<'_> {
         }
         self.put(b"\n");
         self.two_digits(record.filing.time / 10_000);
-        self.four_digits(record.filing.time % 10_000);
+        self.four_digits(record.filing.time);
         self.put(b" ");
         self.put(&record.filing.originator);
         self.put(b"\nSW");
@@ -106,8 +112,8 @@ impl Writer<'_> {
         self.put(b" ");
         self.runway(row.number, row.side);
         self.put(b" ");
-        self.joined(row, |writer, third| writer.put(&[b'0' + third.code]));
-        self.put(b" ");
+        let [a, b, c] = row.thirds.map(|third| b'0' + third.code);
+        self.put(&[a, b'/', b, b'/', c, b' ']);
         if !row.is_short() {
             self.joined(row, |writer, third| writer.coverage(third.coverage));
             self.put(b" ");
@@ -146,8 +152,8 @@ impl Writer<'_> {
             0 => self.put(b"NR"),
             1..=99 => self.two_digits(depth),
             _ => {
-                self.put(&[b'0' + (depth / 100) as u8]);
-                self.two_digits(depth % 100);
+                let [b, c] = pair(depth);
+                self.put(&[b'0' + (depth / 100) as u8, b, c]);
             }
         }
     }
