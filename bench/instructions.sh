@@ -5,7 +5,7 @@
 #
 # WHAT limits the count to names that begin so, e.g. `fast` or `library-read`. Each is counted for two numbers of rounds;
 # the difference is that of the rounds alone, without the start of the program and the making of its inputs.
-set -eu
+set -euo pipefail
 cd "$(dirname "$0")"
 bench=${CARGO_TARGET_DIR:-target}/release/bench
 few=10
