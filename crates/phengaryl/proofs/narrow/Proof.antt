@@ -1,0 +1,19 @@
+use Rattle.text.specs.Laws.Tests.{tests}
+use Rattle.phengaryl.specs.Narrow.{narrow}
+use borrow.Author.Needs.{needs}
+use Rattle.phengaryl.proofs.narrow.Statement.{statement}
+use Rattle.phengaryl.proofs.narrow.Tie as tie
+
+cast-result : tie.Need-cast-result
+cast-result c = search needs
+
+returns : tie.Need-returns
+unfolding narrow
+returns c = search tests
+
+returns-2 : tie.Need-returns-2
+unfolding narrow
+returns-2 c = search tests
+
+pub narrow-spec : {M : Type 1} → statement M
+narrow-spec = tie.close (tie.spec cast-result returns returns-2)

@@ -1,0 +1,3 @@
+-- Numbers from and to C; how the code holds them.
+pub mod Numbers
+pub mod Narrow
