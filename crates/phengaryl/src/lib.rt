@@ -9,9 +9,13 @@ ghost use Rattle.row.specs.Agreement.{agreement};
 ghost use Rattle.notice.specs.Reading.{reading};
 ghost use Rattle.notice.specs.Same.{SaysSame};
 ghost use Rattle.desktext.specs.Desk.{deskText};
+ghost use Rattle.listing.specs.Listing.{listing};
+ghost use Rattle.listing.specs.Rewriting.{Rewrote};
 ghost use Rattle.phengaryl.specs.Numbers.{observed, numbersOf, thirdAt, thirdsOf, rowOf};
 ghost use Rattle.phengaryl.specs.Narrow.{narrow, narrowThird};
 use desktext::desk;
+use listing::canonical;
+use listing::list;
 use notice::read;
 use notice::same;
 use row::Row;
@@ -26,6 +30,24 @@ pub extern "C" fn phengaryl_read(message: &[u8]) -> u8
     ensures { λ r. ⌜ r ≡ reading (now (message .entry)) .refusal ⌝ }
 {
     read(message).refusal
+}
+
+// Puts what the lister prints of a message as far as the buffer goes, and answers how many bytes it has.
+#[no_mangle]
+pub extern "C" fn phengaryl_list(message: &[u8], out: &mut [u8]) -> usize
+    ensures { λ r. ⌜ Put 0 (listing (now (message .entry))) (now (out .entry)) (now (out .exit)) r ⌝ }
+{
+    list(message, out)
+}
+
+// Writes a message anew, in canonical form; answers the refusal number, and through `length` how many bytes were filled.
+#[no_mangle]
+pub extern "C" fn phengaryl_canonical(message: &[u8], out: &mut [u8], length: &mut usize) -> u8
+    ensures { λ r. ⌜ Rewrote (now (message .entry)) (now (out .entry)) (now (out .exit)) (record { refusal = r; length = now (length .exit) }) ⌝ }
+{
+    let written = canonical(message, out);
+    *length = written.length;
+    written.refusal
 }
 
 // Whether two messages are accepted and tell the same.
