@@ -6,10 +6,11 @@ use mathlib.Core.Bool.{true}
 use lib.ListN.{length, length-append}
 use borrow.Author.Tests.{eq-eqb, ne-eqb, lt-leb, leb-true}
 use native.Mathlib.Omega.{arith}
+use Rattle.text.specs.Piece.{bytes}
 use Rattle.text.specs.Put.{Put}
 use Rattle.text.specs.Laws.Base.{and-1, and-2}
 use Rattle.text.specs.Laws.Sizes.{size, digits-size, number-size}
-use Rattle.body.specs.Rows.{rowsOf, validRows}
+use Rattle.body.specs.Rows.{validRows}
 use Rattle.notice.specs.declared.Record.{Record}
 use Rattle.notice.specs.declared.Reading.{Reading}
 use Rattle.notice.specs.declared.Written.{Written}
@@ -19,7 +20,7 @@ use Rattle.notice.specs.Reading.{reading}
 use Rattle.notice.specs.Writing.{unwritten, Wrote, partsText}
 use Rattle.notice.specs.Theorems.{sound}
 use Rattle.notice.specs.Laws.Text.{parts-text}
-use Rattle.listing.specs.Listing.{disagreeingThirds, counted, acceptedLine, refusedLine, listed, listing}
+use Rattle.listing.specs.Listing.{counted, acceptedLine, refusedLine, listed, listing}
 use Rattle.listing.specs.Rewriting.{rewriting, rewritten, Rewrote}
 
 -- accepted, or refused
@@ -70,11 +71,13 @@ rows-low : (r : Record) → validRecord r ≡ true → r .rows .count ≤ 8
 unfolding validRecord validRows
 rows-low r v = let k = and-1 _ _ (and-2 _ _ (and-2 _ _ (and-2 _ _ v))) in leb-true (r .rows .count) 8 (and-1 _ _ (and-2 _ _ k))
 
--- the three counts and the words
+-- the word, three counts and LF
+line-size : (a b c : ℕ) → a < 10 → length (bytes "ACCEPTED" ++ (counted a ++ (counted b ++ (counted c ++ (10 ∷ []))))) ≤ 17
+line-size a b c h = simp length-append (omega (arith, counted-low a h, counted-size b, counted-size c))
+
 pub accepted-size : (r : Record) → validRecord r ≡ true → length (acceptedLine r) ≤ 17
 unfolding acceptedLine
-accepted-size r v =
-    simp length-append (omega (arith, counted-low (r .rows .count) (omega (arith, rows-low r v)), counted-size (r .items .count), counted-size (disagreeingThirds (rowsOf (r .rows)))))
+accepted-size r v = line-size (r .rows .count) _ _ (omega (arith, rows-low r v))
 
 pub refused-size : (n : ℕ) → length (refusedLine n) ≤ 11
 unfolding refusedLine
