@@ -38,6 +38,9 @@ if [ -z "${RUSTC:-}" ] || [ -z "${RUN:-}" ]; then
 fi
 mkdir -p target/x86-64
 # Both commands may have options, so they are not quoted. Overflow is checked as in the profile of cargo.
-$RUSTC --edition 2021 -O -C overflow-checks=on --crate-name compare --cfg 'feature="library"' \
-    -L "native=$library" -l static=phengaryl -o target/x86-64/compare src/main.rs
+compile() {
+    $RUSTC --edition 2021 -O -C overflow-checks=on --crate-name compare --cfg 'feature="library"' "$@"
+}
+compile --crate-type rlib -L "native=$library" -l static=phengaryl -o target/x86-64/libcompare.rlib src/lib.rs
+compile --extern compare=target/x86-64/libcompare.rlib -o target/x86-64/compare src/main.rs
 exec $RUN target/x86-64/compare run "$count" "$seed"

@@ -525,7 +525,8 @@ mod tests {
         let told = answers(&messages);
         let listed = listing(EXAMPLE.as_bytes());
         let expected =
-            [b"#0001\n", &listed[..], b"SAME\n14\n#0002\nREFUSED 2\nDIFFERENT\n#0003\n", &listed, b"DIFFERENT\n14\n"].concat();
+            [b"#0001\n", &listed[..], b"SAME\n14\n#0002\nREFUSED 2\nDIFFERENT\n#0003\n", &listed, b"DIFFERENT\n14\n"]
+                .concat();
         assert_eq!(told, expected);
     }
 }
