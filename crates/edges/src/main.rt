@@ -18,6 +18,9 @@ const LONGEST_LISTING: usize = 8192;
 
 const LENGTH_DIGITS: usize = 5;
 
+// More messages than there are.
+const MOST: u32 = 9999;
+
 // A message in the input: where it starts and ends.
 struct Part {
     fits: bool,
@@ -121,56 +124,36 @@ fn print_answers(message: &[u8], before: &[u8]) -> bool {
 
 // Every message of the input, in its order; the first is compared with itself.
 fn print_all(input: &[u8]) {
-    let mut at: usize = 0;
-    let mut count: u32 = 1;
     let first = part_at(input, 0);
     let mut start_before = first.start;
     let mut end_before = first.end;
-    while at < input.len() {
+    let mut at: usize = 0;
+    let mut left = MOST;
+    while 0 < left {
+        left -= 1;
         let part = part_at(input, at);
         if !part.fits {
-            print(b"CUT SHORT\n");
             return;
         }
         let start = part.start;
         let end = part.end;
-        if !print_count(count) {
+        if !print_count(MOST - left) {
             return;
         }
         if !print_answers(&input[start..end], &input[start_before..end_before]) {
             return;
         }
+        if input.len() <= end {
+            return;
+        }
         start_before = start;
         end_before = end;
         at = end + 1;
-        if count < 9999 {
-            count += 1;
-        }
     }
-}
-
-// The whole input, as far as there is room.
-fn read_all(held: &mut [u8]) -> usize {
-    let mut n: usize = 0;
-    while n < held.len() {
-        let part = &mut held[n..];
-        let got = libc::read(STDIN_FILENO, part);
-        let more = io::count(got, part);
-        if more == 0 {
-            return n;
-        }
-        if held.len() - n < more {
-            return n;
-        }
-        n += more;
-    }
-    n
 }
 
 fn main() {
-    let mut held = [0u8; ROOM];
-    let n = read_all(&mut held);
-    if n <= ROOM {
-        print_all(&held[0..n]);
-    }
+    let mut held = [0; ROOM];
+    let n = io::read_full(STDIN_FILENO, &mut held);
+    print_all(&held[..n]);
 }
