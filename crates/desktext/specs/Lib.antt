@@ -1,4 +1,5 @@
--- What the desk prints; how the code answers; inputs that the checker evaluates.
+-- What the desk prints; how the code answers; how long the text is; inputs that the checker evaluates.
 pub mod Desk
 pub mod Answers
+pub mod Theorems
 pub mod Tables

@@ -14,7 +14,7 @@ use Rattle.surface.specs.Third.{isCoverage, validCoverage, validDepth, validThi
 use Rattle.row.specs.declared.Agreement.{Agreement}
 use Rattle.row.specs.declared.Row.{Row}
 use Rattle.row.specs.Row.{threeThat, validRow}
-use Rattle.row.specs.Agreement.{disagreements, agreement}
+use Rattle.row.specs.Agreement.{agreement}
 use Rattle.phengaryl.specs.Numbers.{rowOf}
 use Rattle.phengaryl.specs.Narrow.{narrow, narrowThird}
 
@@ -111,10 +111,16 @@ module _ (time number side width : ℕ) (t u v : Third) where
   unfolding validRow threeThat
   thirds-valid h = search (and-1, and-2) depth 9
 
-  pub agreement-alike : agreement held ≡ agreement row
+  agreement-alike : agreement held ≡ agreement row
   unfolding agreement
   agreement-alike = go (validRow row) refl
     where
       go : (b : Bool) → validRow row ≡ b → agreement held ≡ agreement row
       go true e = let (p, q, r) = thirds-valid e in rw (kept t p, kept u q, kept v r)
       go false e = rw (row-alike, e)
+
+  -- so what is answered of the row that is held is the answer to the row
+  pub answer-alike : (r : Row) → r ≡ held → (a : Agreement) → a ≡ agreement r → (a .refusal ≡ agreement row .refusal) × (a .count ≡ agreement row .count)
+  answer-alike r e a f =
+      let z : a ≡ agreement row = f ∙ (ap agreement e ∙ agreement-alike) in
+      (ap (λ (k : Agreement). k .refusal) z, ap (λ (k : Agreement). k .count) z)

@@ -1,7 +1,5 @@
-use mathlib.Core.Path.{_∙_, ap}
-use Rattle.row.specs.Agreement.{agreement}
 use Rattle.phengaryl.specs.Numbers.{thirdAt}
-use Rattle.phengaryl.proofs.Rows.{agreement-alike}
+use Rattle.phengaryl.proofs.Rows.{answer-alike}
 use borrow.Author.Needs.{needs}
 use Rattle.phengaryl.proofs.phengaryl_agreement.Statement.{statement}
 use Rattle.phengaryl.proofs.phengaryl_agreement.Tie as tie
@@ -16,8 +14,8 @@ returns : tie.Need-returns
 returns c =
     let a = c .before .before .args in
     let ns = a .thirds .now in
-    let e = c .disagreeing .ensures ∙ ap agreement (c .before .row-of .ensures) ∙ agreement-alike (a .time) (a .number) (a .side) (a .width) (thirdAt ns 0) (thirdAt ns 4) (thirdAt ns 8) in
-    (ap (λ r. r .refusal) e, ap (λ r. r .count) e)
+    let r = c .before .row-of in
+    answer-alike (a .time) (a .number) (a .side) (a .width) (thirdAt ns 0) (thirdAt ns 4) (thirdAt ns 8) (r .result) (r .ensures) (c .disagreeing .result) (c .disagreeing .ensures)
 
 pub phengaryl-agreement-spec : {M : Type 1} → statement M
 phengaryl-agreement-spec = tie.close (tie.spec row-of-requires disagreeing-requires returns)
