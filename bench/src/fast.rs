@@ -240,7 +240,7 @@ pub fn same(one: &[u8], other: &[u8]) -> bool {
 
 /// Writes a valid record. A buffer that takes the longest text takes this one; any other is tried beside it.
 fn written(record: &Record, out: &mut [u8]) -> (u8, usize) {
-    if let Some(out) = out.first_chunk_mut() {
+    if let Some(out) = out.get_mut(..LONGEST_TEXT).and_then(|out| out.try_into().ok()) {
         return (0, write::notice(record, out));
     }
     let mut text = [0; LONGEST_TEXT];

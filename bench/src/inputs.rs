@@ -80,7 +80,7 @@ fn spaced(notice: &str, length: usize) -> Vec<u8> {
         message.push(byte);
         if byte == b' ' {
             let count = missing * (gap + 1) / gaps - missing * gap / gaps;
-            message.extend(std::iter::repeat_n(b' ', count));
+            message.resize(message.len() + count, b' ');
             gap += 1;
         }
     }

@@ -1,5 +1,5 @@
 //! What is measured: three works, done by the proved library, the tuned reader, or a loop that only touches the bytes.
-use std::hint::black_box;
+use std::mem::ManuallyDrop;
 
 use compare::reader;
 
@@ -80,25 +80,32 @@ impl Room {
 #[inline(never)]
 fn touch(bytes: &[u8]) -> u64 {
     let load = |byte: &u8| u64::from(unsafe { std::ptr::read_volatile(byte) });
-    let (eights, rest) = bytes.as_chunks::<8>();
-    let sum: u64 = eights.iter().map(|eight| eight.iter().map(load).sum::<u64>()).sum();
-    sum + rest.iter().map(load).sum::<u64>()
+    let eights = bytes.chunks_exact(8);
+    let rest: u64 = eights.remainder().iter().map(load).sum();
+    eights.map(|eight| eight.iter().map(load).sum::<u64>()).sum::<u64>() + rest
+}
+
+/// The value itself, though the optimizer cannot know that: a volatile load may give anything.
+#[inline(always)]
+fn hidden<T>(value: T) -> T {
+    let value = ManuallyDrop::new(value);
+    ManuallyDrop::into_inner(unsafe { std::ptr::read_volatile(&value) })
 }
 
 /// Does a work `times` over. Neither the input nor the answer is known to the optimizer.
 pub fn repeat(doer: Doer, work: Work, input: &Input, room: &mut Room, times: usize) {
     let Room { record, text } = room;
-    let message = || black_box(&input.message[..]);
-    let other = || black_box(&input.other[..]);
+    let message = || hidden(&input.message[..]);
+    let other = || hidden(&input.other[..]);
     match (doer, work) {
         #[cfg(feature = "library")]
         (Doer::Library, Work::Read) => over(times, || library::read(message())),
         #[cfg(feature = "library")]
-        (Doer::Library, Work::Canonical) => over(times, || library::canonical(message(), black_box(&mut text[..]))),
+        (Doer::Library, Work::Canonical) => over(times, || library::canonical(message(), hidden(&mut text[..]))),
         #[cfg(feature = "library")]
         (Doer::Library, Work::Same) => over(times, || library::same(message(), other())),
-        (Doer::Fast, Work::Read) => over(times, || fast::read(message(), black_box(record))),
-        (Doer::Fast, Work::Canonical) => over(times, || fast::canonical(message(), black_box(&mut text[..]))),
+        (Doer::Fast, Work::Read) => over(times, || fast::read(message(), hidden(record))),
+        (Doer::Fast, Work::Canonical) => over(times, || fast::canonical(message(), hidden(&mut text[..]))),
         (Doer::Fast, Work::Same) => over(times, || fast::same(message(), other())),
         (Doer::Loop, Work::Read | Work::Canonical) => over(times, || touch(message())),
         (Doer::Loop, Work::Same) => over(times, || touch(message()) + touch(other())),
@@ -107,7 +114,7 @@ pub fn repeat(doer: Doer, work: Work, input: &Input, room: &mut Room, times: usi
 
 fn over<T>(times: usize, mut work: impl FnMut() -> T) {
     for _ in 0..times {
-        black_box(work());
+        hidden(work());
     }
 }
 

@@ -32,6 +32,13 @@ struct Reader<'m> {
     rest: &'m [u8],
 }
 
+/// The first bytes, if there are so many, and the others.
+#[inline(always)]
+fn parted<const N: usize>(bytes: &[u8]) -> Option<(&[u8; N], &[u8])> {
+    let first = bytes.get(..N)?.try_into().ok()?;
+    Some((first, &bytes[N..]))
+}
+
 /// A group that was read, and whether spaces were taken behind it.
 type Spaced<T> = (T, bool);
 
@@ -40,7 +47,7 @@ type Spaced<T> = (T, bool);
 impl<'m> Reader<'m> {
     #[inline(always)]
     fn take<const N: usize>(&mut self) -> Option<&'m [u8; N]> {
-        let (taken, rest) = self.rest.split_first_chunk()?;
+        let (taken, rest) = parted(self.rest)?;
         self.rest = rest;
         Some(taken)
     }
@@ -75,7 +82,7 @@ impl<'m> Reader<'m> {
 
     /// Eight at a time and, where there are many, 32.
     fn more_spaces(&mut self) {
-        while let Some((chunk, rest)) = self.rest.split_first_chunk() {
+        while let Some((chunk, rest)) = parted(self.rest) {
             let others = u64::from_le_bytes(*chunk) ^ u64::from_le_bytes([b' '; 8]);
             if others != 0 {
                 let spaces = others.trailing_zeros() / 8;
@@ -133,8 +140,10 @@ impl<'m> Reader<'m> {
     /// A `)` as the last byte of its line, and the line's end.
     #[inline(always)]
     fn closing(&mut self) -> bool {
-        let [b')', rest @ ..] = self.rest else { return false };
-        let mut behind = Reader { rest };
+        let mut behind = match self.rest {
+            [b')', rest @ ..] => Reader { rest },
+            _ => return false,
+        };
         let closes = behind.line_end().is_some();
         if closes {
             *self = behind;
@@ -269,8 +278,10 @@ impl Reader<'_> {
         self.gap()?;
         (row.number, row.side) = self.runway(HIGHEST_REPORTED)?;
         self.gap()?;
-        let [a, b'/', b, b'/', c] = *self.take()? else { return None };
-        let codes = [a, b, c].map(|digit| digit.wrapping_sub(b'0'));
+        let codes = match *self.take()? {
+            [a, b'/', b, b'/', c] => [a, b, c].map(|digit| digit.wrapping_sub(b'0')),
+            _ => return None,
+        };
         if codes.iter().any(|&code| code > 6) {
             return None;
         }
@@ -378,12 +389,20 @@ impl Reader<'_> {
 
     #[inline(always)]
     fn descriptions(&mut self) -> Option<Spaced<[u8; 3]>> {
-        let (first, false) = self.description()? else { return None };
-        self.word(b"/")?;
-        let (second, false) = self.description()? else { return None };
-        self.word(b"/")?;
+        let first = self.description_before_slash()?;
+        let second = self.description_before_slash()?;
         let (third, spaced) = self.description()?;
         Some(([first, second, third], spaced || self.spaces()))
+    }
+
+    /// No space stands between the two.
+    #[inline(always)]
+    fn description_before_slash(&mut self) -> Option<u8> {
+        let (description, spaced) = self.description()?;
+        if spaced {
+            return None;
+        }
+        self.word(b"/").map(|()| description)
     }
 
     /// Spaces are taken behind a description that another word could have made a longer one.
@@ -567,19 +586,18 @@ impl Reader<'_> {
         self.word(b"TWY ")?;
         loop {
             // A taxiway is at most three characters long, and the word that ends the list longer.
-            let &[a, b, c, d] = self.rest.first_chunk()?;
+            let (&[a, b, c, d], _) = parted(self.rest)?;
             let (name, length) = match (is_name(b), is_name(c), is_name(d)) {
                 (false, _, _) => ([a, 0, 0], 1),
                 (true, false, _) => ([a, b, 0], 2),
                 (true, true, false) => ([a, b, c], 3),
                 (true, true, true) => break,
             };
-            let (places, _) = item.taxiways.as_chunks_mut::<3>();
-            let (earlier, places) = places.split_at_mut(item.count.into());
-            if !a.is_ascii_uppercase() || earlier.contains(&name) {
+            let (earlier, places) = item.taxiways.split_at_mut(3 * usize::from(item.count));
+            if !a.is_ascii_uppercase() || earlier.chunks_exact(3).any(|other| other == name) {
                 return None;
             }
-            *places.first_mut()? = name;
+            places.get_mut(..3)?.copy_from_slice(&name);
             item.count += 1;
             self.rest = &self.rest[length..];
             self.gap()?;

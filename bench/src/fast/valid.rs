@@ -170,7 +170,10 @@ impl Third {
 
 impl Items {
     fn is_valid(&self) -> bool {
-        let Some((used, unused)) = self.items.split_at_checked(usize::from(self.count)) else { return false };
+        if self.count > 32 {
+            return false;
+        }
+        let (used, unused) = self.items.split_at(usize::from(self.count));
         let mut order = Order::default();
         let mut fits = |(place, item): (usize, &Item)| item.is_valid() && order.takes(item, &used[..place]);
         used.iter().enumerate().all(&mut fits) && unused.iter().all(|item| *item == Item::BLANK)
@@ -203,7 +206,10 @@ impl Item {
     }
 
     fn taxiways_are_valid(&self) -> bool {
-        let Some((used, unused)) = self.taxiways.split_at_checked(3 * usize::from(self.count)) else { return false };
+        if self.count > 8 {
+            return false;
+        }
+        let (used, unused) = self.taxiways.split_at(3 * usize::from(self.count));
         let names = || used.chunks_exact(3);
         let fits = |name: &[u8]| name[0].is_ascii_uppercase() && holds_name(name);
         names().all(fits)
@@ -214,7 +220,10 @@ impl Item {
 
 impl Language {
     fn is_valid(&self) -> bool {
-        let Some((text, unused)) = self.bytes.split_at_checked(usize::from(self.length)) else { return false };
+        if self.length > 400 {
+            return false;
+        }
+        let (text, unused) = self.bytes.split_at(usize::from(self.length));
         let fits =
             text.len() >= 2 && text.iter().all(|&byte| is_language(byte)) && text[0] != b' ' && text.ends_with(b".");
         (text.is_empty() || fits) && zeros(unused)
