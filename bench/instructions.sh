@@ -1,24 +1,49 @@
 #!/usr/bin/env bash
-# Instructions per message and per byte, counted by callgrind for everything that `bench list` names.
+# Instructions per message and per byte, counted for everything that `bench list` names.
 #
 #   cargo build --release [--features library] && ./instructions.sh [WHAT]
+#   COUNT=emulator EMULATOR=qemu-x86_64 BENCH=path ./instructions.sh [WHAT]
 #
 # WHAT limits the count to names that begin so, e.g. `fast` or `library-read`. Each is counted for two numbers of rounds;
 # the difference is that of the rounds alone, without the start of the program and the making of its inputs.
+#
+# Callgrind counts on the processor that the program was built for. The library is for x86-64 only; where the machine is
+# another one, COUNT=emulator counts by QEMU's emulator of x86-64 programs, and BENCH is a `bench` for x86-64 that stands
+# alone (linked statically). The emulator writes a line for each instruction that it executes. There are some hundred
+# thousand for the start alone, so the rounds are few, and the lines are counted as they come and never stored. The
+# processor it plays is one on which memory is cleared and copied by a loop over vectors: a single instruction that does
+# it byte by byte would be counted once for each byte.
 set -euo pipefail
-cd "$(dirname "$0")"
-bench=${CARGO_TARGET_DIR:-target}/release/bench
-few=10
-many=60
+bench=${BENCH:-${CARGO_TARGET_DIR:-$(dirname "$0")/target}/release/bench}
 
-collected() {
-    valgrind --tool=callgrind --callgrind-out-file=/dev/null "$bench" one "$@" 2>&1 >/dev/null |
-        awk '/Collected/ { print $4; found = 1 } END { exit !found }'
-}
+case ${COUNT:-callgrind} in
+callgrind)
+    few=10
+    many=60
+    answer() { "$bench" "$@"; }
+    counted() {
+        valgrind --tool=callgrind --callgrind-out-file=/dev/null "$bench" "$@" 2>&1 >/dev/null |
+            awk '/Collected/ { print $4; found = 1 } END { exit !found }'
+    }
+    ;;
+emulator)
+    few=1
+    many=3
+    : "${EMULATOR:?}" "${BENCH:?}"
+    answer() { "$EMULATOR" "$bench" "$@"; }
+    counted() {
+        "$EMULATOR" -cpu max,-erms -one-insn-per-tb -d nochain,exec "$bench" "$@" 2>&1 >/dev/null | grep -c '^Trace'
+    }
+    ;;
+*)
+    echo "COUNT is callgrind or emulator" >&2
+    exit 1
+    ;;
+esac
 
-"$bench" list | grep "^${1:-}" | while read -r what input bytes; do
-    first=$(collected "$what" "$input" "$few")
-    second=$(collected "$what" "$input" "$many")
+answer list | grep "^${1:-}" | while read -r what input bytes; do
+    first=$(counted one "$what" "$input" "$few")
+    second=$(counted one "$what" "$input" "$many")
     echo "$what $input $bytes $(((second - first) / (many - few)))"
 done | awk '
     BEGIN { printf "%-18s %-11s %5s %14s %10s\n", "what", "input", "bytes", "instructions", "per byte" }
