@@ -9,12 +9,11 @@ use lib.Seq.{drop-drop}
 use Rattle.text.specs.Choice.{pick, all}
 use Rattle.text.specs.Read.{Got, misfit, got, guard, andThen, readText, readGap, readIf, readBefore}
 use Rattle.text.specs.Names.{isName, past, readRun}
-use Rattle.text.specs.Held.{Reached}
+use Rattle.text.specs.Held.{Reached, Spanned, noSpan}
 use Rattle.text.specs.Laws.Base.{then-got, guard-got, carry}
 use Rattle.text.specs.Laws.Held.{part-all}
 use Rattle.items.specs.Laws.Slots.{name-named}
-use Rattle.awareness.specs.Named.{HeldName}
-use Rattle.awareness.specs.declared.NameFound.{NameFound}
+use Rattle.text.specs.declared.Span.{Span}
 use Rattle.text.specs.Laws.Runs.{run-taken}
 
 -- a run of bytes from a place on
@@ -42,32 +41,29 @@ module _ {A : Type 0} (f : List ℕ → Got A) (m : List ℕ) where
       go (got u k) = refl
 
 -- an answer that fits, and one that does not
-module _ {m : List ℕ} {g : Got (List ℕ)} {r : NameFound} (h : HeldName m g r) where
+module _ {m : List ℕ} {g : Got (List ℕ)} {r : Span} (h : Spanned m g r) where
   pub name-there : r .fits ≡ true → g ≡ got (take (r .next - r .start) (drop (r .start) m)) (drop (r .next) m)
   name-there e = h .says ∙ ap (λ (b : Bool). pick b (got (take (r .next - r .start) (drop (r .start) m)) (drop (r .next) m)) misfit) e
 
   pub name-off : r .fits ≡ false → g ≡ misfit
   name-off e = h .says ∙ ap (λ (b : Bool). pick b (got (take (r .next - r .start) (drop (r .start) m)) (drop (r .next) m)) misfit) e
 
-abbrev noName : NameFound
-noName = record { fits = false; start = 0; next = 0 }
-
-unnamed : {m : List ℕ} {g : Got (List ℕ)} → g ≡ misfit → HeldName m g noName
-unnamed e = record { ordered = omega arith; within = omega arith; says = e }
+unnamed : {m : List ℕ} {g : Got (List ℕ)} → g ≡ misfit → Spanned m g noSpan
+unnamed e = record { ordered = omega arith; within = omega arith; says = e; blank = refl }
 
 -- the name behind a gap, held against a test
-module _ (p : List ℕ → Bool) (m k : List ℕ) {r : NameFound} (h : HeldName m (readGap (readRun isName) k) r) where
-  pub none-named : r .fits ≡ false → HeldName m (readGap (readIf p (readRun isName)) k) noName
+module _ (p : List ℕ → Bool) (m k : List ℕ) {r : Span} (h : Spanned m (readGap (readRun isName) k) r) where
+  pub none-named : r .fits ≡ false → Spanned m (readGap (readIf p (readRun isName)) k) noSpan
   none-named e = unnamed (gap-if (readRun isName) k p ∙ rw (name-off h e))
 
   module _ (f : r .fits ≡ true) {t : Bool} (e : t ≡ p (take (r .next - r .start) (drop (r .start) m))) where
     tested : readGap (readIf p (readRun isName)) k ≡ guard t (got (take (r .next - r .start) (drop (r .start) m)) (drop (r .next) m))
     tested = gap-if (readRun isName) k p ∙ rw (name-there h f, e)
 
-    pub name-passes : t ≡ true → HeldName m (readGap (readIf p (readRun isName)) k) r
-    name-passes u = record { ordered = h .ordered; within = h .within; says = tested ∙ rw (u, f) }
+    pub name-passes : t ≡ true → Spanned m (readGap (readIf p (readRun isName)) k) r
+    name-passes u = record { ordered = h .ordered; within = h .within; says = tested ∙ rw (u, f); blank = h .blank }
 
-    pub name-fails : t ≡ false → HeldName m (readGap (readIf p (readRun isName)) k) noName
+    pub name-fails : t ≡ false → Spanned m (readGap (readIf p (readRun isName)) k) noSpan
     name-fails u = unnamed (tested ∙ rw u)
 
 -- what is known of a name that was read

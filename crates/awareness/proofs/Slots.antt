@@ -53,7 +53,7 @@ from-start m = go (readSomeTaxiways 8 m) refl
     go misfit q = refl
     go (got ws r) q =
         let z : 0 + length ws ≡ length ws = omega arith in
-        let e = over-zeros 24 (inBytes ws) (slots-fit 8 m q) in
+        let e = over-zeros 0 24 (inBytes ws) (slots-fit 8 m q) in
         λ i. got (z i, e i) r
 
 from-end : (c : ℕ) (L : List ℕ) (k : List ℕ) → got (onto c L []) k ≡ got (c, L) k
@@ -77,7 +77,7 @@ module _ (c : ℕ) (L m : List ℕ) where
     from-next {w} {k} e =
         let z : 8 - c ≡ suc (8 - (c + 1)) = omega arith in
         let s = short-taxiway m e in
-        rw (z, e, over-zeros 3 w s) (go (readSomeTaxiways (8 - (c + 1)) k))
+        rw (z, e, over-zeros 0 3 w s) (go (readSomeTaxiways (8 - (c + 1)) k))
       where
         go : (g : Got (List (List ℕ))) → andThen (andThen g (λ ws r. got (w ∷ ws) r)) (λ ws r. got (onto c L ws) r) ≡ andThen g (λ ws r. got (onto (c + 1) (sets L (c * 3) (pad 3 0 w)) ws) r)
         go misfit = refl

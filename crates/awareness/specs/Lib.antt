@@ -2,3 +2,4 @@
 pub mod Held
 pub mod Named
 pub mod Laws
+pub mod Tables

@@ -6,7 +6,7 @@ ghost use Prim.Native.Nat.{_*_, _≤_};
 ghost use lib.ListN.{length, drop, replicate};
 ghost use lib.Seq.{sets};
 ghost use Rattle.text.specs.Choice.{all};
-ghost use Rattle.text.specs.Held.{Held};
+ghost use Rattle.text.specs.Held.{Spanned, Held};
 ghost use Rattle.text.specs.Names.{isName, readRun, readName};
 ghost use Rattle.text.specs.Numbers.{readNumber, number};
 ghost use Rattle.text.specs.Piece.{bytes};
@@ -16,15 +16,17 @@ ghost use Rattle.items.specs.Item.{isTaxiway};
 ghost use Rattle.items.specs.ItemText.{edgeName};
 ghost use Rattle.items.specs.ReadItem.{openings, openingName, sayings, saying, taxiSayings, taxiSaying, edges, readLength, readBank, readDetail, readRunwayForm, runwayItem, readTaxiway, readSomeTaxiways, readTaxiForm, isApron, readApron, apronItem, readApronForm, readForm, readBody, readItem};
 ghost use Rattle.awareness.specs.Held.{Reads, HeldItem, noItem, itemsAnswer};
-ghost use Rattle.awareness.specs.Named.{HeldName, inSlots, bareFound};
+ghost use Rattle.awareness.specs.Named.{inSlots, bareFound};
 use items::Item;
 use items::blank_item;
-use items::stands_behind;
+use items::may_follow;
 use items::valid_item;
 use runway::read_runway;
 use text::CAPITALS_AND_DIGITS;
 use text::Found;
 use text::LETTERS;
+use text::NO_SPAN;
+use text::Span;
 use text::digits;
 use text::place;
 use text::put;
@@ -58,19 +60,6 @@ const NO_DETAIL: DetailFound = DetailFound {
     fits: false,
     edge: 0,
     amount: 0,
-    next: 0,
-};
-
-// A name in a text: where it starts, and the place behind it.
-struct NameFound {
-    fits: bool,
-    start: usize,
-    next: usize,
-}
-
-const NO_NAME: NameFound = NameFound {
-    fits: false,
-    start: 0,
     next: 0,
 };
 
@@ -308,16 +297,16 @@ fn read_runway_item(s: &[u8], i: usize) -> ItemFound
 }
 
 // The capitals and digits behind a gap, perhaps none.
-fn gap_name(s: &[u8], i: usize) -> NameFound
-    ensures { λ r. ⌜ HeldName (now (s .entry)) (readGap (readRun isName) (drop i (now (s .entry)))) r ⌝ }
+fn gap_name(s: &[u8], i: usize) -> Span
+    ensures { λ r. ⌜ Spanned (now (s .entry)) (readGap (readRun isName) (drop i (now (s .entry)))) r ⌝ }
 {
     let g = word(s, i, b" ", 0);
     if !g.fits {
-        return NO_NAME;
+        return NO_SPAN;
     }
     let start = g.next;
     let size = run(&s[start..], 0, CAPITALS_AND_DIGITS);
-    NameFound {
+    Span {
         fits: true,
         start,
         next: start + size,
@@ -336,19 +325,19 @@ fn is_taxiway(name: &[u8]) -> bool
 }
 
 // The taxiway behind a gap.
-fn taxiway(s: &[u8], i: usize) -> NameFound
-    ensures { λ r. ⌜ HeldName (now (s .entry)) (readGap readTaxiway (drop i (now (s .entry)))) r ⌝ }
+fn taxiway(s: &[u8], i: usize) -> Span
+    ensures { λ r. ⌜ Spanned (now (s .entry)) (readGap readTaxiway (drop i (now (s .entry)))) r ⌝ }
 {
     let name = gap_name(s, i);
     if !name.fits {
-        return NO_NAME;
+        return NO_SPAN;
     }
     let start = name.start;
     let next = name.next;
     if is_taxiway(&s[start..next]) {
         name
     } else {
-        NO_NAME
+        NO_SPAN
     }
 }
 
@@ -427,19 +416,19 @@ fn is_apron(name: &[u8]) -> bool
 }
 
 // The apron's name behind a gap.
-fn apron(s: &[u8], i: usize) -> NameFound
-    ensures { λ r. ⌜ HeldName (now (s .entry)) (readGap readApron (drop i (now (s .entry)))) r ⌝ }
+fn apron(s: &[u8], i: usize) -> Span
+    ensures { λ r. ⌜ Spanned (now (s .entry)) (readGap readApron (drop i (now (s .entry)))) r ⌝ }
 {
     let name = gap_name(s, i);
     if !name.fits {
-        return NO_NAME;
+        return NO_SPAN;
     }
     let start = name.start;
     let next = name.next;
     if is_apron(&s[start..next]) {
         name
     } else {
-        NO_NAME
+        NO_SPAN
     }
 }
 
@@ -572,9 +561,14 @@ pub fn read_awareness(line: &[u8]) -> ItemsRead
             break 'items false;
         }
         let item = found.item;
-        let follows = stands_behind(items, count as usize, item);
-        if !follows {
-            break 'items false;
+        // in place, since a call would copy the array for each item
+        let mut k: u8 = 0;
+        while k < count {
+            let a = items[k as usize];
+            if !may_follow(a, item) {
+                break 'items false;
+            }
+            k += 1;
         }
         items[count as usize] = item;
         count += 1;

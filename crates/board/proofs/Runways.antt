@@ -4,7 +4,7 @@ use mathlib.Core.Path.{_≡_, refl, sym, _∙_, ap}
 use mathlib.Core.List.{List, [], _∷_, _++_}
 use mathlib.Core.Bool.{true, false}
 use lib.ListN.{length, drop, getD, set, replicate, length-replicate, drop-of-length-le}
-use lib.Seq.{sets, sets-eq, drop-cons}
+use lib.Seq.{sets, drop-cons}
 use borrow.Author.Tests.{ne-eqb}
 use native.Mathlib.Numerals.{add-one}
 use native.Mathlib.Omega.{arith}
@@ -12,6 +12,7 @@ use Rattle.text.specs.Read.{Got, misfit, got, andThen, whole, readAs, readMany}
 use Rattle.text.specs.Names.{readCount}
 use Rattle.text.specs.Arrays.{pad}
 use Rattle.text.specs.Laws.Many.{many-laws}
+use Rattle.text.specs.Laws.Put.{over-zeros}
 use Rattle.runway.specs.declared.RunwayFound.{RunwayFound}
 use Rattle.runway.specs.Runway.{readRunway}
 use Rattle.runway.specs.Held.{HeldRunway, noRunway}
@@ -58,17 +59,6 @@ onto c L (got ws r) = record { count = c + length ws; runways = sets L c ws }
 abbrev pub listFrom : ℕ → List ℕ → Got (List Runway)
 listFrom c m = whole (readMany (readAs makeRunway readSpaced) (places - c) m)
 
-drop-replicate : {A : Type 0} (a : A) (k n : ℕ) → k ≤ n → drop k (replicate n a) ≡ replicate (n - k) a
-drop-replicate a zero n h = let z : n - 0 ≡ n = omega arith in rw z
-drop-replicate a (suc k) zero h = absurd (omega arith)
-drop-replicate a (suc k) (suc n) h = let z : suc n - suc k ≡ n - k = omega arith in rw z (drop-replicate a k n (omega arith))
-
--- elements stored over zeros are the elements in their array
-pub sets-pad : {A : Type 0} (a : A) (n : ℕ) (l : List A) → length l ≤ n → sets (replicate n a) 0 l ≡ pad n a l
-sets-pad a n l h =
-    let z : 0 + length l ≡ length l = omega arith in
-    sets-eq l (replicate n a) 0 (rw length-replicate (omega arith)) ∙ rw z (ap (λ k. l ++ k) (drop-replicate a (length l) n h))
-
 pub onto-all : (m : List ℕ) → onto 0 (replicate places blankRunway) (listFrom 0 m) ≡ listAnswer (listFrom 0 m)
 onto-all m = go (readMany (readAs makeRunway readSpaced) places m) refl
   where
@@ -77,7 +67,7 @@ onto-all m = go (readMany (readAs makeRunway readSpaced) places m) refl
     go (got ws []) q =
         let v = many-laws spaced-laws space-no-side places .sound {m = m} q .0 in
         let z : 0 + length ws ≡ length ws = omega arith in
-        let e = sets-pad blankRunway places ws (v .0) in
+        let e = over-zeros blankRunway places ws (v .0) in
         λ i. record { count = z i; runways = e i }
     go (got ws (x ∷ k)) q = refl
 

@@ -9,6 +9,7 @@ use lib.Seq.{sets}
 use borrow.Author.Tests.{eq-eqb, ne-eqb}
 use native.Mathlib.Numerals.{add-one}
 use native.Mathlib.Omega.{arith}
+use Rattle.text.specs.Laws.Put.{over-zeros}
 use Rattle.text.specs.Choice.{isEmpty}
 use Rattle.row.specs.declared.Row.{Row}
 use Rattle.row.specs.Row.{blankRow, isBlankRow}
@@ -25,7 +26,6 @@ use Rattle.board.specs.Board.{places, validBoard, wrongBoard}
 use Rattle.board.specs.Writing.{reported, recordOf, noReport, writingBoard, writtenBoard, WroteBoard}
 use Rattle.board.specs.Laws.Writing.{few-reported}
 use Rattle.board.proofs.Places.{next-place}
-use Rattle.board.proofs.Runways.{sets-pad}
 
 -- c rows are in the array L, and rs come behind them
 abbrev pub rowsOnto : ℕ → List Row → List Row → Rows
@@ -35,7 +35,7 @@ rowsOnto c L rs = record { count = c + length rs; rows = sets L c rs }
 pub shown-all : (rows : List Row) → length rows ≤ places → rowsOnto 0 (replicate places blankRow) (reported rows) ≡ makeRows (reported rows)
 shown-all rows h =
     let z : 0 + length (reported rows) ≡ length (reported rows) = omega arith in
-    let e = sets-pad blankRow places (reported rows) (omega (arith, few-reported rows)) in
+    let e = over-zeros blankRow places (reported rows) (omega (arith, few-reported rows)) in
     λ i. record { count = z i; rows = e i }
 
 module _ (rows : List Row) (i : ℕ) (c : ℕ) (L : List Row) where

@@ -134,6 +134,8 @@ pub record Lines : Type 0 where
   spaces : openingLines ("" ∷ "XQAA" ∷ "XQAA  07L" ∷ " XQAA 07L" ∷ "XQAA 07L " ∷ "XQAA 07L  07R" ∷ "XQAA07L" ∷ []) ≡ 17 ∷ 17 ∷ 17 ∷ 17 ∷ 17 ∷ 17 ∷ 17 ∷ []
   texts : openingLines ("XQAA 07L)" ∷ "XQAA 7L" ∷ "XQAA 07X" ∷ "XQA 07L" ∷ "XQA1 07L" ∷ "XQAA 07R 07L" ∷ "XQAA 19" ∷ "XQAA 00" ∷ []) ≡ 17 ∷ 17 ∷ 17 ∷ 17 ∷ 17 ∷ 17 ∷ 17 ∷ 17 ∷ []
   refused : openingLine (bytes "XQAA 07L ") ≡ answer 17 blankBoard
+  -- "blank means all zero"
+  blank : (blankBoard .aerodrome ≡ replicate 4 0) × (blankBoard .count ≡ 0) × (blankBoard .runways ≡ replicate 8 (record { number = 0; side = 0 })) × (blankBoard .rows ≡ replicate 8 blankRow)
   -- "5 where the line is no row under freedoms (a), (b) and (d)"
   report : reportLine board (bytes "01120610 07L 6/6/6 DRY/DRY/DRY") ≡ answer 0 (holding (left ∷ []))
   typed : reportLine board (bytes "01120610  07L 6/6/6 NR/NR/NR NR/NR/NR DRY/DRY/DRY") ≡ answer 0 (holding (left ∷ []))
@@ -146,7 +148,7 @@ pub record Lines : Type 0 where
 
 pub lines : Lines
 unfolding _and_ spell skip readText readMany readName readCount digits readDigits isShortMonth daysOf realDay realClock realTime later validRunway isContaminant isDeep isCoverage validCoverage leastDepth isReported validDepth validThird isBlankThird measurePieces readMeasure readCoverage readDescription thirdPieces readThird readGroup threeThat isBlankRow validRow isBare isSix isDry isShort middlePieces widthPieces rowPieces readFull readShort readWidth readRow isLetters readAerodrome isAerodrome isBlankRunway comesBefore rises rising validList names fitsPlace fitPlaces validPlaces validBoard opening placeOf isNews report readSpaced readOpening openingLine reportLine shownText
-lines = record { opened = refl; most = refl; spaces = refl; texts = refl; refused = refl; report = refl; typed = refl; rows = refl; long = refl; line = refl; none = refl }
+lines = record { opened = refl; most = refl; spaces = refl; texts = refl; refused = refl; blank = (refl, refl, refl, refl); report = refl; typed = refl; rows = refl; long = refl; line = refl; none = refl }
 
 -- "Writing a board: 17, 21": before anything is asked of the details, and no byte is touched
 pub record Writings : Type 0 where

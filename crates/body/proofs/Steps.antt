@@ -7,23 +7,23 @@ use native.Mathlib.Numerals.{add-one}
 use native.Mathlib.Omega.{arith}
 use lib.Dec.{eqb, leb, ltb}
 use lib.ListN.{length, take, drop, set, replicate, length-append, length-drop, drop-of-length-le}
-use lib.Seq.{drop-cons, drop-drop, set-append-seam}
+use lib.Seq.{drop-cons, drop-drop}
 use borrow.Author.Tests.{eqb-true, ne-eqb, eq-eqb, leb-true, leb-false, ltb-true, ltb-false}
 use Rattle.text.specs.Choice.{pick, isEmpty}
 use Rattle.text.specs.Read.{Got, misfit, got}
-use Rattle.text.specs.Lines.{lines, lineSize, lineStep, closed, opened}
+use Rattle.text.specs.Lines.{lines, lineSize, lineStep, linesSize, closed, opened}
 use Rattle.text.specs.Laws.Base.{true-false}
-use Rattle.text.specs.Laws.Arrays.{take-front}
+use Rattle.text.specs.Laws.Arrays.{take-front, pad-more}
 use Rattle.text.specs.Laws.Held.{part-all}
-use Rattle.text.specs.Laws.Lines.{line-within, lines-first}
+use Rattle.text.specs.Laws.Lines.{line-within, lines-first, size-more}
 use Rattle.row.specs.declared.Row.{Row}
 use Rattle.row.specs.Row.{blankRow}
 use Rattle.row.specs.Reading.{wholeRow, answer}
 use Rattle.body.specs.declared.Rows.{Rows}
 use Rattle.body.specs.declared.RowsStep.{RowsStep}
-use Rattle.body.specs.Out.{refuse, taken, fit, atEnd}
+use Rattle.text.specs.Out.{refuse, taken, fit, atEnd}
 use Rattle.body.specs.Rows.{mostRows, rowsOf, makeRows, isAmong, finished, more, block, readRows}
-use Rattle.body.specs.Held.{linesSize, rowLine, Kept, rowsFrom, outcome, stoppedAt, endedAt, grownTo, withRow, emptyLine, lastRow, rowStep, nextRow, noRows, rowsAnswer, RowsHeld}
+use Rattle.body.specs.Held.{rowLine, Kept, rowsFrom, outcome, stoppedAt, endedAt, grownTo, withRow, emptyLine, lastRow, rowStep, nextRow, noRows, rowsAnswer, RowsHeld}
 
 -- the rows that are kept, and one more
 kept-count : (r : Rows) → Kept r → length (rowsOf r) ≡ r .count
@@ -35,11 +35,8 @@ kept-made rs h = record { few = h; zeros = sym (ap makeRows (take-front rs (repl
 one-more : (rs : List Row) (row : Row) → length rs < mostRows → withRow (makeRows rs) row ≡ makeRows (rs ++ (row ∷ []))
 unfolding withRow
 one-more rs row h =
-    let z : mostRows - length rs ≡ suc (mostRows - (length rs + 1)) = omega arith in
     let n : length rs + 1 ≡ length (rs ++ (row ∷ [])) = sym (length-append rs (row ∷ [])) in
-    let e : set (rs ++ replicate (mostRows - length rs) blankRow) (length rs) row ≡ (rs ++ (row ∷ [])) ++ replicate (mostRows - length (rs ++ (row ∷ []))) blankRow =
-    ap (λ (k : ℕ). set (rs ++ replicate k blankRow) (length rs) row) z ∙ set-append-seam rs blankRow (replicate (mostRows - (length rs + 1)) blankRow) row
-    ∙ sym (append-assoc rs (row ∷ []) (replicate (mostRows - (length rs + 1)) blankRow)) ∙ ap (λ (k : ℕ). (rs ++ (row ∷ [])) ++ replicate (mostRows - k) blankRow) n in
+    let e = pad-more mostRows blankRow rs row h in
     λ i. record { count = n i; rows = e i }
 
 module _ (r : Rows) (k : Kept r) (row : Row) (h : r .count < mostRows) where
@@ -200,16 +197,6 @@ next-says r (x ∷ m) k = rw (ne-eqb (suc (length m)) 0 (omega arith)) (sized (l
         full : (b : Bool) → leb mostRows (r .count) ≡ b → NextRow r (x ∷ m) (pick b (stoppedAt r 6) (rowStep r (rowLine (take (suc s) (x ∷ m))) (lineStep (x ∷ m)) (length (x ∷ m))))
         full true f = ninth-says r k x m s e (leb-true mostRows (r .count) f)
         full false f = row-says r k x m s e (leb-false mostRows (r .count) f)
-
--- the lines so far, and one more
-pub size-more : (n : ℕ) (m : List ℕ) → linesSize (suc n) m ≡ linesSize n m + lineStep (drop (linesSize n m) m)
-unfolding linesSize
-size-more zero m = omega arith
-size-more (suc n) m =
-    let h = size-more n (drop (lineStep m) m) in
-    let d : drop (linesSize n (drop (lineStep m) m)) (drop (lineStep m) m) ≡ drop (lineStep m + linesSize n (drop (lineStep m) m)) m = drop-drop (linesSize n (drop (lineStep m) m)) (lineStep m) m in
-    let e = ap lineStep d in
-    omega arith
 
 -- the loop's last step is the answer
 module _ (m : List ℕ) (at : ℕ) (r : Rows) (s : RowsStep) (n : NextRow r (drop at m) s) (ends : s .ends ≡ true)

@@ -1,25 +1,20 @@
 -- What the code's answers say of the readers.
-use Prim.Native.Nat.{ℕ, zero, suc, _+_, _-_, _≤_}
+use Prim.Native.Nat.{ℕ, suc, _+_, _-_, _≤_}
 use mathlib.Core.Path.{_≡_}
 use mathlib.Core.List.{List, []}
 use mathlib.Core.Bool.{Bool, true, false}
 use lib.Dec.{eqb, leb, ltb}
 use lib.ListN.{length, take, drop, set}
 use Rattle.text.specs.Choice.{pick}
-use Rattle.text.specs.Lines.{lines, lineSize, lineStep, closed, opened}
+use Rattle.text.specs.Lines.{lines, lineSize, lineStep, linesSize, closed, opened}
 use Rattle.row.specs.declared.Row.{Row}
 use Rattle.row.specs.Reading.{wholeRow, answer}
 use Rattle.body.specs.declared.Rows.{Rows}
 use Rattle.body.specs.declared.RowLine.{RowLine}
 use Rattle.body.specs.declared.RowsStep.{RowsStep}
 use Rattle.body.specs.declared.RowsRead.{RowsRead}
-use Rattle.body.specs.Out.{Out, refuse, taken}
+use Rattle.text.specs.Out.{Out, refuse, taken}
 use Rattle.body.specs.Rows.{mostRows, rowsOf, makeRows, finished, more, Block, block, isAmong, readRows}
-
--- the bytes of the first n lines of a message, with their ends
-unfoldable pub linesSize : ℕ → List ℕ → ℕ
-linesSize zero m = 0
-linesSize (suc n) m = lineStep m + linesSize n (drop (lineStep m) m)
 
 -- a line in a row's place
 unfoldable pub rowLine : List ℕ → RowLine

@@ -1,4 +1,3 @@
-pub mod Out
 pub mod Rows
 pub mod Remarks
 pub mod Size

@@ -13,7 +13,7 @@ use Rattle.items.specs.Awareness.{mostItems, validItems, awarenessPieces, whole
 use Rattle.items.specs.Language.{mostLanguage, validLanguage, wholeLanguage}
 use Rattle.body.specs.declared.Items.{Items}
 use Rattle.body.specs.declared.Language.{Language}
-use Rattle.body.specs.Out.{Out, refuse, taken, fit, atEnd}
+use Rattle.text.specs.Out.{Out, refuse, taken, fit, atEnd}
 use Rattle.body.specs.Rows.{After, finished, more}
 
 -- the items and the bytes that the arrays hold

@@ -13,7 +13,7 @@ use Rattle.row.specs.Row.{validRow, blankRow, isBlankRow}
 use Rattle.row.specs.Reading.{wholeRow}
 use Rattle.row.specs.Writing.{rowText}
 use Rattle.body.specs.declared.Rows.{Rows}
-use Rattle.body.specs.Out.{Out, refuse, taken, fit, atEnd}
+use Rattle.text.specs.Out.{Out, refuse, taken, fit, atEnd}
 
 -- "1 to 8 runway rows"
 abbrev pub mostRows : ℕ

@@ -2,7 +2,6 @@
 
 ghost use mathlib.Core.Path.{_≡_};
 ghost use Rattle.text.specs.Lines.{lines};
-ghost use Rattle.text.specs.Numbers.{number};
 ghost use Rattle.text.specs.Piece.{canonical};
 ghost use Rattle.text.specs.Put.{Put};
 ghost use Rattle.board.specs.Report.{rowAt};
@@ -17,7 +16,7 @@ use board::report_line;
 use text::first_line;
 use text::place;
 use text::put;
-use text::put_digits;
+use text::put_number;
 use text::told_behind;
 
 const PLACES: usize = 8;
@@ -26,16 +25,6 @@ const PLACES: usize = 8;
 struct Taken {
     answer: Answer,
     next: usize,
-}
-
-// One digit, two from 10 on.
-fn put_number(out: &mut [u8], at: usize, n: u8) -> usize
-    ensures { λ r. ⌜ Put at (canonical (number 1 n)) (now (out .entry)) (now (out .exit)) r ⌝ }
-{
-    if 10 <= n {
-        return put_digits(out, at, 2, n as u32);
-    }
-    put_digits(out, at, 1, n as u32)
 }
 
 // The answer to a report: its refusal number, or 0, on a line of its own.

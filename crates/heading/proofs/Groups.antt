@@ -13,15 +13,14 @@ use Rattle.text.specs.Choice.{pick, _and_, all}
 use Rattle.text.specs.Read.{Got, misfit, got, guard, andThen, orElse, readGap, whole}
 use Rattle.text.specs.Names.{isLetter, inClass, readCount}
 use Rattle.text.specs.Arrays.{slots, pastSlots}
-use Rattle.text.specs.Held.{Held, fits, readWord}
+use Rattle.text.specs.Held.{Spanned, Held, fits, readWord}
 use Rattle.text.specs.declared.Found.{Found}
 use Rattle.text.specs.Laws.Base.{true-false}
 use Rattle.text.specs.Laws.Held.{held-text, part-all}
 use Rattle.text.specs.Laws.Combine.{gap-laws}
 use Rattle.heading.specs.Letters.{readLetters, isLetters}
-use Rattle.heading.specs.Answers.{Spanned}
 use Rattle.heading.specs.Laws.Letters.{letters-long, letters-laws, letter-no-space}
-use Rattle.heading.specs.declared.Span.{Span}
+use Rattle.text.specs.declared.Span.{Span}
 
 pub fits-off : {A : Type 0} (g : Got A) → fits g ≡ false → g ≡ misfit
 fits-off misfit h = refl

@@ -28,7 +28,7 @@ use Rattle.heading.proofs.Groups.{letters-stand, letters-off}
 pub array-is : (n : ℕ) (t : List ℕ) → length t ≡ n → sets (replicate n 0) 0 t ≡ t
 array-is n t e =
     let z : n - length t ≡ 0 = omega arith in
-    over-zeros n t (omega arith) ∙ rw z (append-nil t)
+    over-zeros 0 n t (omega arith) ∙ rw z (append-nil t)
 
 -- the rest of a line from a place on
 pub rest-none : (m : List ℕ) (i : ℕ) → length m ≤ i → drop i m ≡ []

@@ -37,7 +37,7 @@ onto-all m = go (readMany readAddress 8 m) refl
     go (got as′ []) q =
         let v = many-laws address-laws (λ m h. tt) 8 .sound {m = m} q .0 in
         let z : 0 + length as′ ≡ length as′ = omega arith in
-        let e = over-zeros 64 (flat as′) (flat-fits as′ (v .0) (v .1)) in
+        let e = over-zeros 0 64 (flat as′) (flat-fits as′ (v .0) (v .1)) in
         λ i. record { count = z i; letters = e i }
     go (got as′ (x ∷ k)) q = refl
 

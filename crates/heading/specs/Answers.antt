@@ -14,7 +14,6 @@ use Rattle.heading.specs.Heading.{regionSize, aerodromeSize, Heading, re
 use Rattle.heading.specs.declared.Addresses.{Addresses}
 use Rattle.heading.specs.declared.Filing.{Filing}
 use Rattle.heading.specs.declared.Title.{Title}
-use Rattle.heading.specs.declared.Span.{Span}
 use Rattle.heading.specs.declared.AddressList.{AddressList}
 use Rattle.heading.specs.declared.AddressesRead.{AddressesRead}
 use Rattle.heading.specs.declared.FilingRead.{FilingRead}
@@ -56,12 +55,6 @@ aerodromeAnswer (got a r) = record { fits = true; aerodrome = a }
 abbrev pub listAnswer : Got (List (List ℕ)) → AddressList
 listAnswer misfit = record { count = 0; letters = zeros addressRoom }
 listAnswer (got as′ r) = record { count = length as′; letters = pad addressRoom 0 (flat as′) }
-
--- the answer r is the reading g of letters in m: they stand from `start` to `next`
-pub record Spanned (m : List ℕ) (g : Got (List ℕ)) (r : Span) : Type 0 where
-  pub ordered : r .start ≤ r .next
-  pub within : r .next ≤ length m
-  pub says : g ≡ pick (r .fits) (got (take (r .next - r .start) (drop (r .start) m)) (drop (r .next) m)) misfit
 
 -- the answer r is the reading of `SW`, two letters and the serial: the letters stand at 2
 pub record Designated (m : List ℕ) (r : Found) : Type 0 where

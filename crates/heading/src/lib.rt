@@ -9,18 +9,20 @@ ghost use Rattle.text.specs.Choice.{_and_, all, member};
 ghost use Rattle.text.specs.Piece.{canonical, spell};
 ghost use Rattle.text.specs.Read.{readGap, readMany, whole};
 ghost use Rattle.text.specs.Arrays.{isZero, slots, pastSlots};
-ghost use Rattle.text.specs.Held.{Held};
+ghost use Rattle.text.specs.Held.{Spanned, Held};
 ghost use Rattle.text.specs.Put.{Put};
 ghost use Rattle.heading.specs.Letters.{readLetters, isLetters};
 ghost use Rattle.heading.specs.Addresses.{priorities, priorityName, addressPieces, readPriority, readAddress, readAddresses, addressesPieces, validAddresses};
 ghost use Rattle.heading.specs.Filing.{realFiling, readFilingTime, readFiling, filingPieces, validFiling};
 ghost use Rattle.heading.specs.Heading.{isSerial, readSerial, readTime, designatorPieces, readHeading, headingPieces, validTitle, readSerialLine, serialPieces, readAerodrome, aerodromePieces};
-ghost use Rattle.heading.specs.Answers.{Spanned, Designated, listAnswer, addressesAnswer, filingAnswer, headingAnswer, aerodromeAnswer};
+ghost use Rattle.heading.specs.Answers.{Designated, listAnswer, addressesAnswer, filingAnswer, headingAnswer, aerodromeAnswer};
 use runway::real_clock;
 use runway::real_time;
 use text::Found;
 use text::LETTERS;
+use text::NO_SPAN;
 use text::NONE;
+use text::Span;
 use text::counted;
 use text::digits;
 use text::put;
@@ -73,13 +75,6 @@ pub struct AerodromeRead {
     pub aerodrome: [u8; 4],
 }
 
-// Letters in a text: where they start, and the place behind them.
-struct Span {
-    fits: bool,
-    start: usize,
-    next: usize,
-}
-
 // The addresses behind a priority; none where they do not fit.
 struct AddressList {
     count: u8,
@@ -89,12 +84,6 @@ struct AddressList {
 const MOST_ADDRESSES: u8 = 8;
 
 const ADDRESS_SIZE: usize = 8;
-
-const NO_SPAN: Span = Span {
-    fits: false,
-    start: 0,
-    next: 0,
-};
 
 // A gap, and then `n` letters.
 fn gap_letters(s: &[u8], n: usize) -> Span

@@ -53,7 +53,7 @@ language-tests l h k = rw (le-leb 2 (length l) h, le-leb (length l) 400 k, all-c
 -- bytes that were put over zeros
 pub language-kept : (l b : List ℕ) → validLanguage l ≡ true → b ≡ sets (replicate 400 0) 0 l → record { fits = true; length = length l; bytes = b } ≡ languageAnswer (wholeLanguage l)
 unfolding wholeLanguage
-language-kept l b v e = let q = e ∙ over-zeros 400 l (language-short l v) in rw v (λ j. record { fits = true; length = length l; bytes = q j })
+language-kept l b v e = let q = e ∙ over-zeros 0 400 l (language-short l v) in rw v (λ j. record { fits = true; length = length l; bytes = q j })
 
 pub no-language : (l : List ℕ) → validLanguage l ≡ false → languageAnswer misfit ≡ languageAnswer (wholeLanguage l)
 unfolding wholeLanguage

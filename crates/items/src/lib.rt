@@ -24,13 +24,13 @@ use text::zeros_from;
 
 // An awareness item, zeros in every field that its letter does not use.
 pub struct Item {
+    // I: the length; M: the distance
+    pub amount: u16,
     // b'I' to b'P' and b'R'
     pub letter: u8,
     // the runway of I K L M O: number, and 0 none, 1 L, 2 C, 3 R
     pub number: u8,
     pub side: u8,
-    // I: the length; M: the distance
-    pub amount: u16,
     // M: 1 L, 2 R, 3 LR
     pub edge: u8,
     // N and P: how many taxiways; P with none is ALL TWY

@@ -14,7 +14,7 @@ use notice::write;
 use row::disagreeing;
 use text::place;
 use text::put;
-use text::put_digits;
+use text::put_number;
 use text::told_behind;
 
 const MOST_ROWS: u8 = 8;
@@ -42,11 +42,8 @@ fn disagreeing_thirds(r: Rows) -> u8
 fn put_counted(out: &mut [u8], at: usize, n: u8) -> usize
     ensures { λ r. ⌜ Put at (counted n) (now (out .entry)) (now (out .exit)) r ⌝ }
 {
-    let digits = put(out, at, b" ");
-    if n < 10 {
-        return put_digits(out, digits, 1, n as u32);
-    }
-    put_digits(out, digits, 2, n as u32)
+    let at = put(out, at, b" ");
+    put_number(out, at, n)
 }
 
 // The first line of an accepted message.

@@ -11,18 +11,19 @@ use Rattle.text.specs.Choice.{pick, sameBytes}
 use Rattle.text.specs.Lines.{lines}
 use Rattle.body.specs.declared.Rows.{Rows}
 use Rattle.body.specs.declared.RowsRead.{RowsRead}
-use Rattle.body.specs.Out.{Out, refuse, taken, next}
+use Rattle.text.specs.Out.{Out, refuse, taken, next}
 use Rattle.body.specs.Rows.{rowsOf, makeRows, latest, After, finished, more}
 use Rattle.body.specs.Remarks.{Remarks, readRemarks}
 use Rattle.body.specs.Held.{RowsHeld}
-use Rattle.body.specs.Laws.Out.{Numbered}
+use Rattle.text.specs.Laws.Out.{Numbered}
 use Rattle.body.specs.Laws.Remarks.{remarks-numbered}
-use Rattle.notice.specs.declared.Front.{Front}
-use Rattle.notice.specs.declared.FrontRead.{FrontRead}
+use Rattle.front.specs.declared.Front.{Front}
+use Rattle.front.specs.declared.FrontRead.{FrontRead}
 use Rattle.notice.specs.declared.Record.{Record}
 use Rattle.notice.specs.Record.{makeRecord}
 use Rattle.notice.specs.Reading.{agreeing, accepted, refused, result, longest, reading}
-use Rattle.notice.specs.Front.{headingOf, readBelow, FrontHeld}
+use Rattle.front.specs.Front.{headingOf, FrontHeld}
+use Rattle.notice.specs.Below.{readBelow}
 use Rattle.remarks.specs.Held.{remarksAnswer}
 use Rattle.notice.specs.Below.{agreement, judged, recordOf}
 use Rattle.notice.specs.Laws.Front.{front-is}

@@ -1,14 +1,26 @@
--- What is read below the front, as the code answers it.
+-- What is read below the front, and how the code answers it.
 use Prim.Native.Nat.{ℕ}
+use mathlib.Core.List.{List, []}
 use lib.Dec.{eqb}
 use Rattle.text.specs.Choice.{pick, sameBytes}
 use Rattle.body.specs.declared.Rows.{Rows}
-use Rattle.body.specs.Rows.{rowsOf, latest}
+use Rattle.body.specs.Rows.{mostRows, rowsOf, latest, readRows}
+use Rattle.body.specs.Remarks.{readRemarks}
 use Rattle.remarks.specs.declared.RemarksRead.{RemarksRead}
-use Rattle.notice.specs.declared.Front.{Front}
+use Rattle.front.specs.declared.Front.{Front}
 use Rattle.notice.specs.declared.Reading.{Reading}
 use Rattle.notice.specs.declared.Record.{Record}
-use Rattle.notice.specs.Reading.{accepted, refused}
+use Rattle.front.specs.Front.{headingOf}
+use Rattle.text.specs.Out.{Out, next}
+use Rattle.notice.specs.Record.{makeRecord}
+use Rattle.notice.specs.Reading.{agreeing, accepted, refused}
+
+-- what is read below the front, and whether it agrees with it
+unfoldable pub readBelow : Front → List (List ℕ) → Out Record
+readBelow f ls =
+    next (readRows mostRows [] ls) (λ block.
+    next (readRemarks (block .after)) (λ remarks.
+    agreeing (headingOf f) (f .serial) (f .aerodrome) (block .rows) (makeRecord (f .addresses) (f .filing) (f .title) (block .rows) remarks)))
 
 -- the refusal of parts that fit, each by itself: 10, 11, 12, or 0
 unfoldable pub agreement : Front → Rows → ℕ

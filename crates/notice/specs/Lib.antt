@@ -4,7 +4,6 @@ pub mod Notice
 pub mod Reading
 pub mod Writing
 pub mod Same
-pub mod Front
 pub mod Below
 pub mod Laws
 pub mod Theorems

@@ -9,7 +9,7 @@ use Rattle.row.specs.declared.Row.{Row}
 use Rattle.heading.specs.Addresses.{readAddresses}
 use Rattle.heading.specs.Filing.{readFiling}
 use Rattle.heading.specs.Heading.{Heading, readHeading, readSerialLine, readAerodrome}
-use Rattle.body.specs.Out.{Out, refuse, taken, next, line}
+use Rattle.text.specs.Out.{Out, refuse, taken, next, line}
 use Rattle.body.specs.Rows.{mostRows, latest, readRows}
 use Rattle.body.specs.Remarks.{readRemarks}
 use Rattle.notice.specs.declared.Record.{Record}

@@ -14,7 +14,7 @@ use Rattle.text.specs.Piece.{Typing}
 use Rattle.text.specs.Lines.{lines, ended}
 use Rattle.text.specs.Laws.Typing.{canonical-typed}
 use Rattle.text.specs.Laws.Lines.{lines-sound, lines-complete}
-use Rattle.body.specs.Out.{Out, refuse, taken}
+use Rattle.text.specs.Out.{Out, refuse, taken}
 use Rattle.notice.specs.declared.Record.{Record}
 use Rattle.notice.specs.declared.Written.{Written}
 use Rattle.notice.specs.Record.{validRecord, blankRecord}

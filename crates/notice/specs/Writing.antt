@@ -5,11 +5,8 @@ use mathlib.Core.List.{List, [], _∷_, _++_}
 use lib.Dec.{leb}
 use lib.ListN.{length, drop}
 use Rattle.text.specs.Choice.{pick}
-use Rattle.text.specs.Piece.{canonical}
 use Rattle.text.specs.Lines.{under}
-use Rattle.heading.specs.Addresses.{addressesPieces}
-use Rattle.heading.specs.Filing.{filingPieces}
-use Rattle.heading.specs.Heading.{headingPieces, serialPieces, aerodromePieces}
+use Rattle.front.specs.Front.{frontText}
 use Rattle.body.specs.Rows.{rowsOf, latest, rowsText}
 use Rattle.body.specs.Remarks.{itemsOf, languageOf, remarkLines}
 use Rattle.notice.specs.declared.Record.{Record}
@@ -41,13 +38,7 @@ pub record Wrote (r : Record) (before after : List ℕ) (w : Written) : Type 0 w
   pub holds : after ≡ written r before
 
 -- the text part by part: lines 1 to 5, the rows, what stands below them, and the end
-abbrev pub frontText : Record → List ℕ
-frontText r =
-    canonical (addressesPieces (r .addresses))
-    ++ ((10 ∷ canonical (filingPieces (r .filing)))
-    ++ ((10 ∷ canonical (headingPieces (record { title = r .title; time = latest (rowsOf (r .rows)) })))
-    ++ ((10 ∷ canonical (serialPieces (r .title .serial)))
-    ++ (10 ∷ canonical (aerodromePieces (r .title .aerodrome))))))
-
 unfoldable pub partsText : Record → List ℕ
-partsText r = frontText r ++ (rowsText (rowsOf (r .rows)) ++ (under (remarkLines (itemsOf (r .items)) (languageOf (r .language))) ++ (41 ∷ 10 ∷ [])))
+partsText r =
+    frontText (r .addresses) (r .filing) (r .title) (latest (rowsOf (r .rows)))
+    ++ (rowsText (rowsOf (r .rows)) ++ (under (remarkLines (itemsOf (r .items)) (languageOf (r .language))) ++ (41 ∷ 10 ∷ [])))

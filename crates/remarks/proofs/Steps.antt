@@ -20,12 +20,14 @@ use Rattle.items.specs.declared.Item.{Item}
 use Rattle.items.specs.Awareness.{wholeAwareness}
 use Rattle.items.specs.Language.{wholeLanguage}
 use Rattle.items.specs.Held.{languageAnswer}
+use Rattle.awareness.specs.declared.ItemsRead.{ItemsRead}
 use Rattle.awareness.specs.Held.{itemsAnswer}
-use Rattle.body.specs.declared.Items.{Items}
-use Rattle.body.specs.Out.{refuse, fit, atEnd}
+use Rattle.text.specs.Out.{refuse, fit, atEnd}
 use Rattle.body.specs.Rows.{more}
 use Rattle.body.specs.Remarks.{makeItems, makeLanguage, remarks, readLanguageLine, readRemarks}
-use Rattle.remarks.specs.Held.{noRemarks, remarksAnswer, ending, lastItems, lastLanguage, nextLanguage, itemsStep}
+use Rattle.remarks.specs.declared.RemarksRead.{RemarksRead}
+use Rattle.remarks.specs.declared.Tail.{Tail}
+use Rattle.remarks.specs.Held.{noRemarks, remarksAnswer, noTail, ending, lastItems, lastLanguage, nextLanguage, itemsStep, joined}
 use Rattle.text.specs.Laws.Lines.{size-within}
 
 -- the text of a line: all of it but the `)` that closes
@@ -83,44 +85,62 @@ unfolding lines
 nothing-below [] h = refl
 nothing-below (x ∷ m) h = absurd (omega arith)
 
-module _ (is : List Item) where
-  end-says : (t rest : List ℕ) → ending (makeItems is) (makeLanguage t) (length rest) ≡ remarksAnswer (atEnd (lines rest) (remarks is t))
-  unfolding ending lines
+-- behind items that fit
+module _ (is : List Item) (k : List ℕ) where
+  end-says : (t rest : List ℕ) → joined (itemsAnswer (got is k)) (ending (makeLanguage t) (length rest)) ≡ remarksAnswer (atEnd (lines rest) (remarks is t))
+  unfolding joined ending lines
   end-says t [] = refl
   end-says t (x ∷ m) = rw (ne-eqb (suc (length m)) 0 (omega arith), lines-first x m)
 
   closed-says : (c : Bool) (g : Got (List ℕ)) (rest : List ℕ)
-      → pick c (lastLanguage (makeItems is) (languageAnswer g) (length rest)) (noRemarks 4) ≡ remarksAnswer (pick c (fit 9 g (λ p. atEnd (lines rest) (remarks is p))) (refuse 4))
-  unfolding lastLanguage
+      → joined (itemsAnswer (got is k)) (pick c (lastLanguage (languageAnswer g) (length rest)) (noTail 4)) ≡ remarksAnswer (pick c (fit 9 g (λ p. atEnd (lines rest) (remarks is p))) (refuse 4))
+  unfolding joined lastLanguage
   closed-says false g rest = refl
   closed-says true misfit rest = refl
   closed-says true (got t j) rest = end-says t rest
 
-  language-says : (m : List ℕ) → nextLanguage (makeItems is) m ≡ remarksAnswer (readLanguageLine is (lines m))
-  unfolding nextLanguage lines
+  language-says : (m : List ℕ) → joined (itemsAnswer (got is k)) (nextLanguage m) ≡ remarksAnswer (readLanguageLine is (lines m))
+  unfolding joined nextLanguage lines
   language-says [] = refl
   language-says (x ∷ m) =
       let l = take (lineSize (x ∷ m)) (x ∷ m) in
       let rest = drop (lineStep (x ∷ m)) (x ∷ m) in
       rw (ne-eqb (suc (length m)) 0 (omega arith), ← length-drop (lineStep (x ∷ m)) (x ∷ m), lines-first x m) (closed-says (closed l) (wholeLanguage (opened l)) rest)
 
+-- the items and what stands behind them, as they are answered
+abbrev pub below : ItemsRead → Bool → List ℕ → RemarksRead
+below r c rest = joined r (itemsStep (r .fits) (r .count) c rest)
+
 items-says : (g : Got (List Item)) (c : Bool) (rest : List ℕ)
-    → itemsStep (itemsAnswer g) c rest ≡ remarksAnswer (fit 8 g (λ is. pick c (pick (isEmpty is) (refuse 8) (atEnd (lines rest) (remarks is []))) (readLanguageLine is (lines rest))))
-unfolding itemsStep lastItems
+    → below (itemsAnswer g) c rest ≡ remarksAnswer (fit 8 g (λ is. pick c (pick (isEmpty is) (refuse 8) (atEnd (lines rest) (remarks is []))) (readLanguageLine is (lines rest))))
+unfolding joined itemsStep lastItems
 items-says misfit c rest = refl
 items-says (got [] j) true rest = refl
-items-says (got (i ∷ is) j) true rest = rw (ne-eqb (suc (length is)) 0 (omega arith)) (end-says (i ∷ is) [] rest)
-items-says (got is j) false rest = language-says is rest
+items-says (got (i ∷ is) j) true rest = rw (ne-eqb (suc (length is)) 0 (omega arith)) (end-says (i ∷ is) j [] rest)
+items-says (got is j) false rest = language-says is j rest
 
 -- the answers of the code
 module _ (m : List ℕ) (some : length m ≡ 0 → ⊥) (line : Line) (f : line ≡ firstLine m) (n : ℕ) (e : n ≡ length (opened (take (line .size) m))) where
-  pub language-closed : (i : Items) → n < line .size → nextLanguage i m ≡ lastLanguage i (languageAnswer (wholeLanguage (take n m))) (length m - line .next)
+  pub language-closed : n < line .size → nextLanguage m ≡ lastLanguage (languageAnswer (wholeLanguage (take n m))) (length m - line .next)
   unfolding nextLanguage
-  language-closed i h = rw (ne-eqb (length m) 0 some, ← text-there m line f n e, ← text-shut-there m line f n e, lt-ltb n (line .size) h, next-here m line f n e)
+  language-closed h = rw (ne-eqb (length m) 0 some, ← text-there m line f n e, ← text-shut-there m line f n e, lt-ltb n (line .size) h, next-here m line f n e)
 
-  pub language-open : (i : Items) → line .size ≤ n → nextLanguage i m ≡ noRemarks 4
+  pub language-open : line .size ≤ n → nextLanguage m ≡ noTail 4
   unfolding nextLanguage
-  language-open i h = rw (ne-eqb (length m) 0 some, ← text-shut-there m line f n e, le-ltb n (line .size) h)
+  language-open h = rw (ne-eqb (length m) 0 some, ← text-shut-there m line f n e, le-ltb n (line .size) h)
 
-  pub remarks-says : itemsStep (itemsAnswer (wholeAwareness (take n m))) (ltb n (line .size)) (take (length m - line .next) (drop (line .next) m)) ≡ remarksAnswer (readRemarks (more (lines m)))
+  pub remarks-says : below (itemsAnswer (wholeAwareness (take n m))) (ltb n (line .size)) (take (length m - line .next) (drop (line .next) m)) ≡ remarksAnswer (readRemarks (more (lines m)))
   remarks-says = rw (text-there m line f n e, text-shut-there m line f n e, part-all, next-here m line f n e, first-lines m some) (items-says (wholeAwareness (opened (take (lineSize m) m))) (closed (take (lineSize m) m)) (drop (lineStep m) m))
+
+  -- either the tail is refused, or it stands behind the items
+  module _ {r : ItemsRead} (x : r ≡ itemsAnswer (wholeAwareness (take n m))) {t : Tail} (y : t ≡ itemsStep (r .fits) (r .count) (ltb n (line .size)) (take (length m - line .next) (drop (line .next) m))) where
+    both : joined r t ≡ remarksAnswer (readRemarks (more (lines m)))
+    both = rw (y, x) remarks-says
+
+    pub tail-refused : (t .refusal ≡ 0 → ⊥) → noRemarks (t .refusal) ≡ remarksAnswer (readRemarks (more (lines m)))
+    unfolding joined
+    tail-refused h = rw (ne-eqb (t .refusal) 0 h) at both
+
+    pub tail-joined : t .refusal ≡ 0 → record { refusal = 0; items = record { count = r .count; items = r .items }; language = t .language } ≡ remarksAnswer (readRemarks (more (lines m)))
+    unfolding joined
+    tail-joined h = rw h at both

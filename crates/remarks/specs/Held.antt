@@ -10,11 +10,11 @@ use Rattle.items.specs.declared.LanguageRead.{LanguageRead}
 use Rattle.items.specs.Language.{wholeLanguage}
 use Rattle.items.specs.Held.{languageAnswer}
 use Rattle.awareness.specs.declared.ItemsRead.{ItemsRead}
-use Rattle.body.specs.declared.Items.{Items}
 use Rattle.body.specs.declared.Language.{Language}
-use Rattle.body.specs.Out.{Out, refuse, taken}
+use Rattle.text.specs.Out.{Out, refuse, taken}
 use Rattle.body.specs.Remarks.{Remarks, makeItems, makeLanguage}
 use Rattle.remarks.specs.declared.RemarksRead.{RemarksRead}
+use Rattle.remarks.specs.declared.Tail.{Tail}
 
 -- what stands below the rows; a refused reading is blank
 abbrev pub noRemarks : ℕ → RemarksRead
@@ -24,26 +24,31 @@ abbrev pub remarksAnswer : Out Remarks → RemarksRead
 remarksAnswer (refuse n) = noRemarks n
 remarksAnswer (taken x) = record { refusal = 0; items = makeItems (x .items); language = makeLanguage (x .language) }
 
+-- what stands behind the items: the plain language, or none; blank where it is refused
+abbrev pub noTail : ℕ → Tail
+noTail n = record { refusal = n; language = makeLanguage [] }
+
 -- behind the line that `)` closes: "bytes after the end"
-unfoldable pub ending : Items → Language → ℕ → RemarksRead
-ending i l left = pick (eqb left 0) (record { refusal = 0; items = i; language = l }) (noRemarks 4)
+unfoldable pub ending : Language → ℕ → Tail
+ending l left = pick (eqb left 0) (record { refusal = 0; language = l }) (noTail 4)
 
 -- the awareness line is the last: 8 where it is "empty before `)`"
-unfoldable pub lastItems : Items → ℕ → RemarksRead
-lastItems i left = pick (eqb (i .count) 0) (noRemarks 8) (ending i (makeLanguage []) left)
+unfoldable pub lastItems : ℕ → ℕ → Tail
+lastItems count left = pick (eqb count 0) (noTail 8) (ending (makeLanguage []) left)
 
-unfoldable pub lastLanguage : Items → LanguageRead → ℕ → RemarksRead
-lastLanguage i r left = pick (r .fits) (ending i (record { length = r .length; bytes = r .bytes }) left) (noRemarks 9)
+unfoldable pub lastLanguage : LanguageRead → ℕ → Tail
+lastLanguage r left = pick (r .fits) (ending (record { length = r .length; bytes = r .bytes }) left) (noTail 9)
 
 -- the line of plain language: 4 where it is missing, and "at once" where it lacks `)`
-unfoldable pub nextLanguage : Items → List ℕ → RemarksRead
-nextLanguage i m =
-    pick (eqb (length m) 0) (noRemarks 4)
-    (pick (closed (take (lineSize m) m)) (lastLanguage i (languageAnswer (wholeLanguage (opened (take (lineSize m) m)))) (length m - lineStep m)) (noRemarks 4))
+unfoldable pub nextLanguage : List ℕ → Tail
+nextLanguage m =
+    pick (eqb (length m) 0) (noTail 4)
+    (pick (closed (take (lineSize m) m)) (lastLanguage (languageAnswer (wholeLanguage (opened (take (lineSize m) m)))) (length m - lineStep m)) (noTail 4))
 
--- the awareness line, whether `)` closes it, and what is left behind it
-unfoldable pub itemsStep : ItemsRead → Bool → List ℕ → RemarksRead
-itemsStep r c rest =
-    pick (r .fits)
-    (pick c (lastItems (record { count = r .count; items = r .items }) (length rest)) (nextLanguage (record { count = r .count; items = r .items }) rest))
-    (noRemarks 8)
+-- the awareness line: whether it fits, how many items it has, whether `)` closes it, and what is left behind it
+unfoldable pub itemsStep : Bool → ℕ → Bool → List ℕ → Tail
+itemsStep fits count c rest = pick fits (pick c (lastItems count (length rest)) (nextLanguage rest)) (noTail 8)
+
+-- the items and what stands behind them
+unfoldable pub joined : ItemsRead → Tail → RemarksRead
+joined r t = pick (eqb (t .refusal) 0) (record { refusal = 0; items = record { count = r .count; items = r .items }; language = t .language }) (noRemarks (t .refusal))

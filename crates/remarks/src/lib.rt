@@ -11,8 +11,7 @@ ghost use Rattle.text.specs.Put.{Put};
 ghost use Rattle.items.specs.Awareness.{awarenessPieces};
 ghost use Rattle.body.specs.Rows.{more};
 ghost use Rattle.body.specs.Remarks.{itemsOf, languageOf, holdsItems, makeItems, makeLanguage, holdsLanguage, languageLines, remarkLines, readRemarks};
-ghost use Rattle.remarks.specs.Held.{noRemarks, remarksAnswer, ending, lastItems, lastLanguage, nextLanguage, itemsStep};
-use awareness::ItemsRead;
+ghost use Rattle.remarks.specs.Held.{noRemarks, remarksAnswer, noTail, ending, lastItems, lastLanguage, nextLanguage, itemsStep};
 use awareness::read_awareness;
 use body::Items;
 use body::Language;
@@ -151,34 +150,46 @@ pub fn no_remarks(refusal: u8) -> RemarksRead
     }
 }
 
+// What stands behind the items: the plain language, or none, or a refusal. It is read by itself, so that the items are not handed on.
+pub struct Tail {
+    pub refusal: u8,
+    pub language: Language,
+}
+
+fn no_tail(refusal: u8) -> Tail
+    ensures { λ t. ⌜ t ≡ noTail refusal ⌝ }
+{
+    let language = blank_language();
+    Tail { refusal, language }
+}
+
 // Behind the line that `)` closes: 4 where bytes are left.
-fn ending(items: Items, language: Language, left: usize) -> RemarksRead
-    ensures { λ r. ⌜ r ≡ ending items language left ⌝ }
+fn ending(language: Language, left: usize) -> Tail
+    ensures { λ t. ⌜ t ≡ ending language left ⌝ }
 {
     if left == 0 {
-        return RemarksRead {
+        return Tail {
             refusal: 0,
-            items,
             language,
         };
     }
-    no_remarks(4)
+    no_tail(4)
 }
 
 // An awareness line that `)` closes is the last: 8 where it is empty.
-fn last_items(items: Items, left: usize) -> RemarksRead
-    ensures { λ r. ⌜ r ≡ lastItems items left ⌝ }
+fn last_items(count: u8, left: usize) -> Tail
+    ensures { λ t. ⌜ t ≡ lastItems count left ⌝ }
 {
-    if items.count == 0 {
-        return no_remarks(8);
+    if count == 0 {
+        return no_tail(8);
     }
     let language = blank_language();
-    ending(items, language, left)
+    ending(language, left)
 }
 
 // Plain language that `)` closes: 9 where it does not fit.
-fn last_language(items: Items, read: LanguageRead, left: usize) -> RemarksRead
-    ensures { λ r. ⌜ r ≡ lastLanguage items read left ⌝ }
+fn last_language(read: LanguageRead, left: usize) -> Tail
+    ensures { λ t. ⌜ t ≡ lastLanguage read left ⌝ }
 {
     if read.fits {
         let bytes = read.bytes;
@@ -186,44 +197,39 @@ fn last_language(items: Items, read: LanguageRead, left: usize) -> RemarksRead
             length: read.length,
             bytes,
         };
-        return ending(items, language, left);
+        return ending(language, left);
     }
-    no_remarks(9)
+    no_tail(9)
 }
 
 // The line of plain language at the front of `m`: 4 where it is missing, and at once where it lacks `)`.
-fn next_language(items: Items, m: &[u8]) -> RemarksRead
-    ensures { λ r. ⌜ r ≡ nextLanguage items (now (m .entry)) ⌝ }
+fn next_language(m: &[u8]) -> Tail
+    ensures { λ t. ⌜ t ≡ nextLanguage (now (m .entry)) ⌝ }
 {
     if m.len() == 0 {
-        return no_remarks(4);
+        return no_tail(4);
     }
     let line = first_line(m);
     let size = line.size;
     let text = text_size(&m[..size]);
     if text < size {
         let read = read_language(&m[..text]);
-        return last_language(items, read, m.len() - line.next);
+        return last_language(read, m.len() - line.next);
     }
-    no_remarks(4)
+    no_tail(4)
 }
 
-// The awareness line as it was read, with `rest` behind it: 8 where it does not fit.
-fn items_step(read: ItemsRead, closed: bool, rest: &[u8]) -> RemarksRead
-    ensures { λ r. ⌜ r ≡ itemsStep read closed (now (rest .entry)) ⌝ }
+// What stands behind an awareness line: `count` items, if it fits, with `rest` behind it; 8 where it does not fit.
+fn items_step(fits: bool, count: u8, closed: bool, rest: &[u8]) -> Tail
+    ensures { λ t. ⌜ t ≡ itemsStep fits count closed (now (rest .entry)) ⌝ }
 {
-    if read.fits {
-        let held = read.items;
-        let items = Items {
-            count: read.count,
-            items: held,
-        };
+    if fits {
         if closed {
-            return last_items(items, rest.len());
+            return last_items(count, rest.len());
         }
-        return next_language(items, rest);
+        return next_language(rest);
     }
-    no_remarks(8)
+    no_tail(8)
 }
 
 // What stands below the empty line that ended the rows, line by line.
@@ -238,5 +244,18 @@ pub fn read_remarks(m: &[u8]) -> RemarksRead
     let next = line.next;
     let text = text_size(&m[..size]);
     let read = read_awareness(&m[..text]);
-    items_step(read, text < size, &m[next..])
+    let tail = items_step(read.fits, read.count, text < size, &m[next..]);
+    if tail.refusal != 0 {
+        return no_remarks(tail.refusal);
+    }
+    let items = read.items;
+    let language = tail.language;
+    RemarksRead {
+        refusal: 0,
+        items: Items {
+            count: read.count,
+            items,
+        },
+        language,
+    }
 }

@@ -8,7 +8,8 @@ use Rattle.text.specs.Piece.{byte, gap, loose, end, last, nrGroups, byte
 use Rattle.text.specs.Read.{misfit, got, skip, readText, readGap, readLoose, readMany, whole}
 use Rattle.text.specs.Numbers.{isDigit, readDigits, digits, number, readNumber}
 use Rattle.text.specs.Names.{isLetter, isName, isMark, isPlainByte, inClass, readCount, run, past, readName, nameAt}
-use Rattle.text.specs.Lines.{lines, endSize, lineSize, lineStep, closed, front, opened, ended}
+use Rattle.text.specs.Lines.{lines, endSize, lineSize, lineStep, linesSize, closed, front, opened, ended}
+use Rattle.text.specs.Out.{refuse, taken, atEnd}
 use Rattle.text.specs.Put.{told, farthest}
 use Rattle.text.specs.Arrays.{pad, slots, pastSlots, flat}
 
@@ -96,11 +97,14 @@ pub record Lined : Type 0 where
   pub steps : map lineStep ((65 ∷ 10 ∷ 66 ∷ []) ∷ (65 ∷ 13 ∷ 10 ∷ []) ∷ (65 ∷ 13 ∷ []) ∷ [] ∷ []) ≡ 2 ∷ 3 ∷ 2 ∷ 0 ∷ []
   pub closings : map closed (bytes "A)" ∷ bytes ")" ∷ bytes ")A" ∷ [] ∷ []) ≡ true ∷ true ∷ false ∷ false ∷ []
   pub texts : map opened (bytes "A))" ∷ bytes ")" ∷ bytes ")A" ∷ []) ≡ bytes "A)" ∷ [] ∷ bytes ")A" ∷ []
+  pub counted : map (λ n. linesSize n (65 ∷ 10 ∷ 66 ∷ 13 ∷ 10 ∷ 67 ∷ [])) (0 ∷ 1 ∷ 2 ∷ 3 ∷ 4 ∷ []) ≡ 0 ∷ 2 ∷ 5 ∷ 6 ∷ 6 ∷ []
+  -- "bytes after the end": 4
+  pub behind : (atEnd {A = ℕ} [] 7 ≡ taken 7) × (atEnd {A = ℕ} ([] ∷ []) 7 ≡ refuse 4)
   pub under : canonical (ended (words "A" ∷ words "B" ∷ [])) ≡ (65 ∷ 10 ∷ 66 ∷ 41 ∷ 10 ∷ [])
 
 pub lined : Lined
-unfolding lines endSize lineSize lineStep closed front ended spell
-lined = record { none = refl; mixed = refl; empties = refl; returns = refl; sizes = refl; steps = refl; closings = refl; texts = refl; under = refl }
+unfolding lines endSize lineSize lineStep linesSize closed front ended spell
+lined = record { none = refl; mixed = refl; empties = refl; returns = refl; sizes = refl; steps = refl; closings = refl; texts = refl; counted = refl; behind = (refl, refl); under = refl }
 
 -- lists in arrays, zeros behind
 pub record Held : Type 0 where

@@ -3,11 +3,13 @@ use Prim.Native.Nat.{ℕ}
 use Prim.Native.String.{String}
 use mathlib.Core.Path.{_≡_, refl}
 use mathlib.Core.List.{List, [], _∷_, _++_, map}
+use mathlib.Core.Bool.{false}
 use Rattle.text.specs.Piece.{bytes, spell, canonical}
 use Rattle.text.specs.Read.{Got, misfit, got, skip, readText}
 use Rattle.text.specs.Names.{readName}
 use Rattle.text.specs.Numbers.{digits, readDigits}
 use Rattle.surface.specs.Descriptions.{notReported, compactedSnow, drySnow, drySnowOnCompactedSnow, drySnowOnIce, frost, ice, slush, standingWater, waterOnCompactedSnow, wet, wetIce, wetSnow, wetSnowOnCompactedSnow, wetSnowOnIce, dry}
+use Rattle.thirds.specs.Held.{noTrio}
 use Rattle.thirds.specs.Groups.{codes, coverages, depths, descriptions, descriptionOrder, measurePieces, readMeasure, readCoverage, readDescription, thirdPieces, readThird, highest, Three, groupPieces, readGroup}
 
 abbrev text : ℕ → ℕ → List ℕ
@@ -63,8 +65,10 @@ pub record Readings : Type 0 where
   depth : map (third depths) ("NR" ∷ "03" ∷ "99" ∷ "100" ∷ "999" ∷ "3" ∷ "00" ∷ "099" ∷ "1000" ∷ []) ≡ got notReported [] ∷ got 3 [] ∷ got 99 [] ∷ got 100 [] ∷ got 999 [] ∷ misfit ∷ misfit ∷ got 9 (bytes "9") ∷ got 100 (bytes "0") ∷ []
   groups : (group codes " 1/2/3" ≡ all 1 2 3) × (group coverages "  25/NR/100" ≡ all 25 notReported 100) × (group depths " 03/NR/100" ≡ all 3 notReported 100) × (group descriptions " DRY/NR/WET ICE" ≡ all dry notReported wetIce)
   parted : map (group codes) ("1/2/3" ∷ " 1 /2/3" ∷ " 1/ 2/3" ∷ " 1/2" ∷ " 1-2-3" ∷ []) ≡ misfit ∷ misfit ∷ misfit ∷ misfit ∷ misfit ∷ []
+  -- a misfit is all zero
+  nothing : noTrio ≡ record { fits = false; one = 0; two = 0; three = 0; next = 0 }
   shown : map highest (codes ∷ coverages ∷ depths ∷ descriptions ∷ []) ≡ 9 ∷ 100 ∷ 999 ∷ dry ∷ []
 
 pub readings : Readings
 unfolding spell skip readText readName readDigits digits measurePieces readMeasure readCoverage readDescription thirdPieces readThird highest readGroup
-readings = record { description = refl; spaced = refl; none = refl; code = refl; coverage = refl; depth = refl; groups = (refl, refl, refl, refl); parted = refl; shown = refl }
+readings = record { description = refl; spaced = refl; none = refl; code = refl; coverage = refl; depth = refl; groups = (refl, refl, refl, refl); parted = refl; nothing = refl; shown = refl }

@@ -17,7 +17,7 @@ returns : tie.Need-returns
 returns c =
     let b2 = c .before .before in
     let w = b2 .before .before .before in
-    let e = b2 .put .ensures .holds ∙ over-zeros 16 (w .args .name .now) (w .pre) in
+    let e = b2 .put .ensures .holds ∙ over-zeros 0 16 (w .args .name .now) (w .pre) in
     let i = c .blank-item .ensures in
     λ j. record { letter = 82; number = i j .number; side = i j .side; amount = i j .amount; edge = i j .edge; count = i j .count; taxiways = i j .taxiways; name = e j }
 

@@ -1,3 +1,4 @@
+use mathlib.Core.Path.{refl}
 use mathlib.Core.List.{[], _∷_}
 use lib.ListN.{drop}
 use borrow.Author.Tests.{not-true, not-false}
@@ -17,7 +18,7 @@ word-requires c κs = search needs
 returns : tie.Need-returns
 returns c =
     let a = c .before .before .before .before .before .args in
-    record { ordered = search needs; within = search needs; says = rw (text-off (32 ∷ []) (drop (a .i) (a .s .now)) 0 (c .before .before .word .ensures) (not-true _ (c .if1 .taken))) }
+    record { blank = refl; ordered = search needs; within = search needs; says = rw (text-off (32 ∷ []) (drop (a .i) (a .s .now)) 0 (c .before .before .word .ensures) (not-true _ (c .if1 .taken))) }
 
 sub-run : tie.Need-sub-run
 sub-run c = search needs
@@ -41,6 +42,7 @@ returns-2 c =
     let a = b4 .before .before .before .args in
     let w = b4 .word in
     record {
+      blank = refl;
       ordered = search needs;
       within = search needs;
       says = rw (text-there (32 ∷ []) (drop (a .i) (a .s .now)) 0 (w .ensures) (not-false _ (c .before .before .if1 .left))) (run-span isName (a .s .now) (w .result .next) (c .run .ensures));

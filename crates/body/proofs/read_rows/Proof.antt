@@ -1,11 +1,11 @@
 use mathlib.Core.Path.{_≡_, refl, sym, subst, _∙_, ap}
-use Rattle.body.specs.Held.{Kept, rowsFrom, linesSize, RowsHeld}
+use Rattle.body.specs.Held.{Kept, rowsFrom, RowsHeld}
 use Rattle.body.proofs.Steps.{answer-held, began, stepped, stays, again, fewer}
 use Prim.Native.Nat.{_≤_, _-_}
 use mathlib.Core.List.{[]}
 use native.Mathlib.Omega.{arith}
 use lib.ListN.{length, drop}
-use Rattle.text.specs.Lines.{lines}
+use Rattle.text.specs.Lines.{lines, linesSize}
 use Rattle.body.specs.Rows.{mostRows, readRows}
 use borrow.Author.Needs.{needs}
 use Rattle.body.proofs.read_rows.Statement.{statement}

@@ -8,13 +8,13 @@ use lib.ListN.{drop}
 use borrow.Author.Tests.{eqb-true}
 use native.Mathlib.Omega.{arith}
 use Rattle.text.specs.Choice.{pick}
-use Rattle.text.specs.Lines.{lines}
+use Rattle.text.specs.Lines.{lines, linesSize}
 use Rattle.body.specs.declared.Rows.{Rows}
 use Rattle.body.specs.declared.RowsRead.{RowsRead}
-use Rattle.body.specs.Out.{refuse, taken}
+use Rattle.text.specs.Out.{refuse, taken}
 use Rattle.body.specs.Rows.{mostRows, rowsOf, makeRows, After, finished, more, Block, block, readRows}
-use Rattle.body.specs.Held.{linesSize, Kept, noRows, RowsHeld}
-use Rattle.body.specs.Laws.Out.{no-refuse, took}
+use Rattle.body.specs.Held.{Kept, noRows, RowsHeld}
+use Rattle.text.specs.Laws.Out.{no-refuse, took}
 
 -- `)` and an empty line are told apart
 one-end : (a b : Bool) (ls ks : List (List ℕ)) → pick a finished (more ls) ≡ pick b finished (more ks) → a ≡ b

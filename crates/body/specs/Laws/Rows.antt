@@ -18,9 +18,9 @@ use Rattle.row.specs.declared.Row.{Row}
 use Rattle.row.specs.Row.{validRow, rowPieces}
 use Rattle.row.specs.Reading.{wholeRow}
 use Rattle.row.specs.Laws.Row.{row-laws}
-use Rattle.body.specs.Out.{Out, refuse, taken, fit, atEnd}
+use Rattle.text.specs.Out.{Out, refuse, taken, fit, atEnd}
 use Rattle.body.specs.Rows.{isAmong, newRunways, After, finished, more, Block, block, readRows}
-use Rattle.body.specs.Laws.Out.{no-refuse, took, fit-took, end-took, Numbered, fit-numbered, pick-numbered, end-numbered}
+use Rattle.text.specs.Laws.Out.{no-refuse, took, fit-took, end-took, Numbered, fit-numbered, pick-numbered, end-numbered}
 
 -- what comes behind the rows
 abbrev pub Follows : After → List (List Piece) → Type 0

@@ -1,5 +1,5 @@
 use Prim.Native.Nat.{_+_, _-_}
-use mathlib.Core.Path.{_≡_, sym, _∙_}
+use mathlib.Core.Path.{_≡_, refl, sym, _∙_}
 use native.Mathlib.Omega.{arith}
 use lib.ListN.{drop, length-drop}
 use lib.Seq.{drop-drop}
@@ -19,7 +19,7 @@ word-requires c κs = search needs
 returns : tie.Need-returns
 returns c =
     let b5 = c .before .before .before .before .before in
-    record { ordered = search needs; within = search needs; says = gap-off (readLetters (b5 .args .n)) (b5 .args .s .now) (c .before .before .word .result) (c .before .before .word .ensures) (not-true _ (c .if1 .taken)) }
+    record { blank = refl; ordered = search needs; within = search needs; says = gap-off (readLetters (b5 .args .n)) (b5 .args .s .now) (c .before .before .word .result) (c .before .before .word .ensures) (not-true _ (c .if1 .taken)) }
 
 counted-requires : tie.Need-counted-requires
 counted-requires c κs = search needs
@@ -41,7 +41,7 @@ returns-2 c =
     let n = b7 .args .n in
     let k = letters-stand n (drop (w .next) m) (sym (c .before .counted .ensures) ∙ c .if2 .taken) in
     let z : w .next + n - w .next ≡ n = omega arith in
-    record { ordered = search needs; within = omega (arith, k .long, length-drop (w .next) m, b4 .word .ensures .within); says = rw (z, gap-on (readLetters n) m w (b4 .word .ensures) (not-false _ (c .before .before .if1 .left)), k .is, drop-drop) }
+    record { blank = refl; ordered = search needs; within = omega (arith, k .long, length-drop (w .next) m, b4 .word .ensures .within); says = rw (z, gap-on (readLetters n) m w (b4 .word .ensures) (not-false _ (c .before .before .if1 .left)), k .is, drop-drop) }
 
 returns-3 : tie.Need-returns-3
 returns-3 c =
@@ -50,7 +50,7 @@ returns-3 c =
     let m = b7 .args .s .now in
     let w = b4 .word .result in
     let n = b7 .args .n in
-    record { ordered = search needs; within = search needs; says = gap-on (readLetters n) m w (b4 .word .ensures) (not-false _ (c .before .before .if1 .left)) ∙ letters-off n (drop (w .next) m) (sym (c .before .counted .ensures) ∙ c .if2 .left) }
+    record { blank = refl; ordered = search needs; within = search needs; says = gap-on (readLetters n) m w (b4 .word .ensures) (not-false _ (c .before .before .if1 .left)) ∙ letters-off n (drop (w .next) m) (sym (c .before .counted .ensures) ∙ c .if2 .left) }
 
 pub gap-letters-spec : {M : Type 1} → statement M
 gap-letters-spec =

@@ -4,16 +4,11 @@ use mathlib.Core.Path.{_≡_, refl, sym, _∙_, ap}
 use mathlib.Core.List.{List, [], _∷_, _++_}
 use mathlib.Core.Bool.{Bool, true, false}
 use Rattle.text.specs.Choice.{_and_, all}
-use Rattle.text.specs.Laws.Base.{and-1, and-2, and-i, true-false}
+use Rattle.text.specs.Laws.Base.{and-1, and-2, and-i, and-none, true-false}
 use Rattle.text.specs.Laws.Lines.{all-append}
 use Rattle.items.specs.declared.Item.{Item}
 use Rattle.items.specs.Item.{validItem}
 use Rattle.items.specs.Awareness.{mayFollow, mayPrecede, standsBehind, inOrder, soundItems}
-
-and-none : (a : Bool) {b : Bool} → b ≡ false → (a and b) ≡ false
-unfolding _and_
-and-none true h = h
-and-none false h = refl
 
 -- one that fails behind others
 all-off : {A : Type 0} (p : A → Bool) (xs ys : List A) (i : A) → p i ≡ false → all p (xs ++ (i ∷ ys)) ≡ false

@@ -1,5 +1,5 @@
 use Rattle.notice.proofs.Judging.{too-long, front-refuses, front-goes-on}
-use Rattle.notice.specs.Front.{readBelow}
+use Rattle.notice.specs.Below.{readBelow}
 use Rattle.notice.specs.Reading.{result}
 use Rattle.text.specs.Laws.Held.{part-all}
 use Rattle.text.specs.Lines.{lines}

@@ -6,11 +6,12 @@ use Rattle.text.specs.Read.{Got, misfit, got, andThen, whole}
 use Rattle.heading.specs.Addresses.{readAddresses}
 use Rattle.heading.specs.Filing.{readFiling}
 use Rattle.heading.specs.Heading.{readHeading, readSerialLine, readAerodrome}
-use Rattle.body.specs.Out.{Out, next, fit, line, taken}
+use Rattle.text.specs.Out.{Out, next, fit, line, taken}
 use Rattle.notice.specs.declared.Record.{Record}
-use Rattle.notice.specs.declared.Front.{Front}
+use Rattle.front.specs.declared.Front.{Front}
 use Rattle.notice.specs.Reading.{readNotice}
-use Rattle.notice.specs.Front.{blankFront, withAddresses, withFiling, withHeading, withSerial, withAerodrome, frontCount, fillLine, lineRefusal, nextLine, fillLines, readBelow}
+use Rattle.front.specs.Front.{blankFront, withAddresses, withFiling, withHeading, withSerial, withAerodrome, frontCount, fillLine, lineRefusal, nextLine, fillLines}
+use Rattle.notice.specs.Below.{readBelow}
 
 abbrev Lines : Type 0
 Lines = List (List ℕ)

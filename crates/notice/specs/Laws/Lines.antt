@@ -24,10 +24,10 @@ use Rattle.heading.specs.Heading.{Heading, readHeading, serialPieces, readSeria
 use Rattle.heading.specs.Laws.Addresses.{addresses-laws}
 use Rattle.heading.specs.Laws.Filing.{filing-laws}
 use Rattle.heading.specs.Laws.Heading.{heading-laws, serial-line-laws, aerodrome-laws}
-use Rattle.body.specs.Out.{Out, refuse, taken, line}
+use Rattle.text.specs.Out.{Out, refuse, taken, line}
 use Rattle.body.specs.Rows.{mostRows, latest, readRows}
 use Rattle.body.specs.Remarks.{remarkLines, languageLines, noneOrLanguage, readRemarks}
-use Rattle.body.specs.Laws.Out.{no-refuse, took, fit-took, next-took, line-numbered, next-numbered, pick-numbered, Numbered}
+use Rattle.text.specs.Laws.Out.{no-refuse, took, fit-took, next-took, line-numbered, next-numbered, pick-numbered, Numbered}
 use Rattle.body.specs.Laws.Rows.{rows-sound, rows-numbered, Told, last-line, one-line, told, rows-complete}
 use Rattle.body.specs.Laws.Remarks.{remarks-sound, remarks-complete, remarks-tail, remarks-numbered}
 use Rattle.notice.specs.declared.Record.{Record}

@@ -2,8 +2,8 @@
 use Prim.Native.Nat.{_≤_}
 use mathlib.Core.Path.{_≡_, ap}
 use native.Mathlib.Omega.{arith}
-use Rattle.body.specs.Out.{Out, refuse, taken}
-use Rattle.body.specs.Laws.Out.{Numbered}
+use Rattle.text.specs.Out.{Out, refuse, taken}
+use Rattle.text.specs.Laws.Out.{Numbered}
 use Rattle.notice.specs.declared.Record.{Record}
 use Rattle.notice.specs.Reading.{accepted, result}
 

@@ -8,12 +8,12 @@ returns : tie.Need-returns
 unfolding ending
 returns c = search tests
 
-no-remarks-requires : tie.Need-no-remarks-requires
-no-remarks-requires c κs = search needs
+no-tail-requires : tie.Need-no-tail-requires
+no-tail-requires c κs = search needs
 
 returns-2 : tie.Need-returns-2
 unfolding ending
-returns-2 c = simp (← (c .no-remarks .ensures)) (search tests)
+returns-2 c = simp (← (c .no-tail .ensures)) (search tests)
 
 pub ending-spec : {M : Type 1} → statement M
-ending-spec = tie.close (tie.spec returns no-remarks-requires returns-2)
+ending-spec = tie.close (tie.spec returns no-tail-requires returns-2)

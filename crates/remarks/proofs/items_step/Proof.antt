@@ -8,21 +8,21 @@ last-items-requires c κs = search needs
 
 returns : tie.Need-returns
 unfolding itemsStep
-returns c = rw (c .before .before .before .if1 .taken, c .before .if2 .taken) (c .last-items .ensures)
+returns c = rw (c .before .before .if1 .taken, c .before .if2 .taken) (c .last-items .ensures)
 
 next-language-requires : tie.Need-next-language-requires
 next-language-requires c κs = search needs
 
 returns-2 : tie.Need-returns-2
 unfolding itemsStep
-returns-2 c = rw (c .before .before .before .if1 .taken, c .before .if2 .left) (c .next-language .ensures)
+returns-2 c = rw (c .before .before .if1 .taken, c .before .if2 .left) (c .next-language .ensures)
 
-no-remarks-requires : tie.Need-no-remarks-requires
-no-remarks-requires c κs = search needs
+no-tail-requires : tie.Need-no-tail-requires
+no-tail-requires c κs = search needs
 
 returns-3 : tie.Need-returns-3
 unfolding itemsStep
-returns-3 c = rw (c .before .if1 .left) (c .no-remarks .ensures)
+returns-3 c = rw (c .before .if1 .left) (c .no-tail .ensures)
 
 pub items-step-spec : {M : Type 1} → statement M
 items-step-spec =
@@ -32,5 +32,5 @@ items-step-spec =
     returns
     next-language-requires
     returns-2
-    no-remarks-requires
+    no-tail-requires
     returns-3)

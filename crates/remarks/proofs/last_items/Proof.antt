@@ -4,12 +4,12 @@ use borrow.Author.Needs.{needs}
 use Rattle.remarks.proofs.last_items.Statement.{statement}
 use Rattle.remarks.proofs.last_items.Tie as tie
 
-no-remarks-requires : tie.Need-no-remarks-requires
-no-remarks-requires c κs = search needs
+no-tail-requires : tie.Need-no-tail-requires
+no-tail-requires c κs = search needs
 
 returns : tie.Need-returns
 unfolding lastItems
-returns c = simp (← (c .no-remarks .ensures)) (search tests)
+returns c = simp (← (c .no-tail .ensures)) (search tests)
 
 blank-language-requires : tie.Need-blank-language-requires
 blank-language-requires c κs = search needs
@@ -24,4 +24,4 @@ returns-2 c = simp (← (c .before .blank-language .ensures), ← (c .ending .en
 pub last-items-spec : {M : Type 1} → statement M
 last-items-spec =
     tie.close
-    (tie.spec no-remarks-requires returns blank-language-requires ending-requires returns-2)
+    (tie.spec no-tail-requires returns blank-language-requires ending-requires returns-2)

@@ -11,12 +11,12 @@ returns : tie.Need-returns
 unfolding lastLanguage
 returns c = simp (← (c .ending .ensures)) (search tests)
 
-no-remarks-requires : tie.Need-no-remarks-requires
-no-remarks-requires c κs = search needs
+no-tail-requires : tie.Need-no-tail-requires
+no-tail-requires c κs = search needs
 
 returns-2 : tie.Need-returns-2
 unfolding lastLanguage
-returns-2 c = simp (← (c .no-remarks .ensures)) (search tests)
+returns-2 c = simp (← (c .no-tail .ensures)) (search tests)
 
 pub last-language-spec : {M : Type 1} → statement M
-last-language-spec = tie.close (tie.spec ending-requires returns no-remarks-requires returns-2)
+last-language-spec = tie.close (tie.spec ending-requires returns no-tail-requires returns-2)

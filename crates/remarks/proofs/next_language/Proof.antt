@@ -9,12 +9,12 @@ use borrow.Author.Needs.{needs}
 use Rattle.remarks.proofs.next_language.Statement.{statement}
 use Rattle.remarks.proofs.next_language.Tie as tie
 
-no-remarks-requires : tie.Need-no-remarks-requires
-no-remarks-requires c κs = search needs
+no-tail-requires : tie.Need-no-tail-requires
+no-tail-requires c κs = search needs
 
 returns : tie.Need-returns
 unfolding nextLanguage
-returns c = rw (eq-eqb _ _ (c .before .if1 .taken)) (c .no-remarks .ensures)
+returns c = rw (eq-eqb _ _ (c .before .if1 .taken)) (c .no-tail .ensures)
 
 first-line-requires : tie.Need-first-line-requires
 first-line-requires c κs = search needs
@@ -42,24 +42,24 @@ returns-2 c =
     let s = c .before .before .before .before .before in
     let p = s .before .before in
     let a = p .before .before .before .args in
-    let e = language-closed (a .m .now) (p .before .if1 .left) (p .first-line .result) (p .first-line .ensures) (s .text-size .result) (s .text-size .ensures) (a .items) (c .before .before .before .before .if2 .taken) in
+    let e = language-closed (a .m .now) (p .before .if1 .left) (p .first-line .result) (p .first-line .ensures) (s .text-size .result) (s .text-size .ensures) (c .before .before .before .before .if2 .taken) in
     c .last-language .ensures ∙ rw (c .before .before .read-language .ensures) (sym e)
 
-no-remarks-requires-2 : tie.Need-no-remarks-requires-2
-no-remarks-requires-2 c κs = search needs
+no-tail-requires-2 : tie.Need-no-tail-requires-2
+no-tail-requires-2 c κs = search needs
 
 returns-3 : tie.Need-returns-3
 returns-3 c =
     let s = c .before .before in
     let p = s .before .before in
     let a = p .before .before .before .args in
-    c .no-remarks2 .ensures ∙ sym (language-open (a .m .now) (p .before .if1 .left) (p .first-line .result) (p .first-line .ensures) (s .text-size .result) (s .text-size .ensures) (a .items) (c .before .if2 .left))
+    c .no-tail2 .ensures ∙ sym (language-open (a .m .now) (p .before .if1 .left) (p .first-line .result) (p .first-line .ensures) (s .text-size .result) (s .text-size .ensures) (c .before .if2 .left))
 
 pub next-language-spec : {M : Type 1} → statement M
 next-language-spec =
     tie.close
     (tie.spec
-    no-remarks-requires
+    no-tail-requires
     returns
     first-line-requires
     slice-aggregate-text-size
@@ -69,5 +69,5 @@ next-language-spec =
     sub-last-language
     last-language-requires
     returns-2
-    no-remarks-requires-2
+    no-tail-requires-2
     returns-3)

@@ -2,7 +2,7 @@ use mathlib.Core.Path.{_≡_, sym, _∙_, ap}
 use native.Mathlib.Omega.{arith}
 use lib.ListN.{length-take}
 use Rattle.text.specs.Laws.Lines.{size-within, line-within}
-use Rattle.remarks.proofs.Steps.{nothing-below, text-within, remarks-says}
+use Rattle.remarks.proofs.Steps.{nothing-below, text-within, tail-refused, tail-joined}
 use borrow.Author.Needs.{needs}
 use Rattle.remarks.proofs.read_remarks.Statement.{statement}
 use Rattle.remarks.proofs.read_remarks.Tie as tie
@@ -54,12 +54,24 @@ part-items-step-end c = search needs
 items-step-requires : tie.Need-items-step-requires
 items-step-requires c κs = search needs
 
+no-remarks-requires-2 : tie.Need-no-remarks-requires-2
+no-remarks-requires-2 c κs = search needs
+
 returns-2 : tie.Need-returns-2
 returns-2 c =
-    let s = c .before .before .before .before in
+    let q = c .before .before .before in
+    let s = q .before .before .before .before in
     let p = s .before .before in
     let m = p .before .before .before .args .m .now in
-    c .items-step .ensures ∙ rw (c .before .before .read-awareness .ensures) (remarks-says m (p .before .if1 .left) (p .first-line .result) (p .first-line .ensures) (s .text-size .result) (s .text-size .ensures))
+    c .no-remarks2 .ensures ∙ tail-refused m (p .before .if1 .left) (p .first-line .result) (p .first-line .ensures) (s .text-size .result) (s .text-size .ensures) (q .before .before .read-awareness .ensures) (q .items-step .ensures) (c .before .if2 .taken)
+
+returns-3 : tie.Need-returns-3
+returns-3 c =
+    let q = c .before .before .before .before in
+    let s = q .before .before .before .before in
+    let p = s .before .before in
+    let m = p .before .before .before .args .m .now in
+    tail-joined m (p .before .if1 .left) (p .first-line .result) (p .first-line .ensures) (s .text-size .result) (s .text-size .ensures) (q .before .before .read-awareness .ensures) (q .items-step .ensures) (c .before .before .if2 .left)
 
 pub read-remarks-spec : {M : Type 1} → statement M
 read-remarks-spec =
@@ -76,4 +88,6 @@ read-remarks-spec =
     part-items-step-start
     part-items-step-end
     items-step-requires
-    returns-2)
+    no-remarks-requires-2
+    returns-2
+    returns-3)

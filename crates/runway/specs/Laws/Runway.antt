@@ -11,8 +11,8 @@ use Rattle.text.specs.Choice.{pick, headIs, _and_}
 use Rattle.text.specs.Piece.{byte, spell}
 use Rattle.text.specs.Read.{Got, misfit, got, readAs, maybeByte}
 use Rattle.text.specs.Numbers.{isDigit}
-use Rattle.text.specs.Laws.Base.{Laws, Head, Any, inner, no-misfit, carry}
-use Rattle.text.specs.Laws.Held.{one-place}
+use Rattle.text.specs.Laws.Base.{Laws, Head, Any, inner}
+use Rattle.text.specs.Laws.Held.{Told, told-one}
 use Rattle.text.specs.Laws.Combine.{seq-laws, as-laws, relay, maybe-laws}
 use Rattle.text.specs.Laws.Numbers.{digits-laws}
 use Rattle.text.specs.Laws.Sizes.{size, append-size, digits-size, spell-size, name-size}
@@ -75,22 +75,9 @@ runway-size n s = let h = side-size s in rw (append-size, digits-size, spell-siz
 
 -- the promise of reading a runway leaves no choice
 pub runway-one : {m : List ℕ} {g : Got (ℕ × ℕ)} {r s : RunwayFound} → HeldRunway m g r → HeldRunway m g s → r ≡ s
-runway-one {m} {g} {r} {s} p q = go (r .fits) (s .fits) refl refl
+runway-one {m} {g} p q =
+    told-one (λ f. f .fits) (λ f. (f .number, f .side)) (λ f. f .next) noRunway m g
+    (λ a b x v n. λ i. record { fits = x i; number = v i .0; side = v i .1; next = n i }) (tells p) (tells q)
   where
-    heard : {t : RunwayFound} {b : Bool} → HeldRunway m g t → t .fits ≡ b → g ≡ pick b (got (t .number, t .side) (drop (t .next) m)) misfit
-    heard {t} h x = h .says ∙ ap (λ (b : Bool). pick b (got (t .number, t .side) (drop (t .next) m)) misfit) x
-
-    blank : {t : RunwayFound} → HeldRunway m g t → t .fits ≡ false → t ≡ noRunway
-    blank {t} h x = h .blank ∙ ap (λ (b : Bool). pick b t noRunway) x
-
-    go : (a b : Bool) → r .fits ≡ a → s .fits ≡ b → r ≡ s
-    go true true x y =
-        let e : _≡_ {A = Got (ℕ × ℕ)} (got (r .number, r .side) (drop (r .next) m)) (got (s .number, s .side) (drop (s .next) m)) = sym (heard p x) ∙ heard q y in
-        let u = carry (λ (p : ℕ × ℕ) _. r .number ≡ p .0) e refl in
-        let v = carry (λ (p : ℕ × ℕ) _. r .side ≡ p .1) e refl in
-        let d = carry (λ (_ : ℕ × ℕ) k. drop (r .next) m ≡ k) e refl in
-        let n = one-place m (r .next) (s .next) (p .within) (q .within) d in
-        λ i. record { fits = (x ∙ sym y) i; number = u i; side = v i; next = n i }
-    go true false x y = no-misfit (sym (heard q y) ∙ heard p x)
-    go false true x y = no-misfit (sym (heard p x) ∙ heard q y)
-    go false false x y = blank p x ∙ sym (blank q y)
+    tells : {t : RunwayFound} → HeldRunway m g t → Told (λ f. f .fits) (λ f. (f .number, f .side)) (λ f. f .next) noRunway m g t
+    tells h = record { within = h .within; says = h .says; blanks = h .blank }

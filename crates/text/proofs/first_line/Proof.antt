@@ -1,44 +1,68 @@
 use native.Mathlib.Omega.{arith}
+use mathlib.Core.Path.{sym, _∙_}
+use lib.ListN.{drop}
+use Rattle.text.proofs.Steps.{passes-join, passes-one, line-ended, line-stopped, end-short}
 use borrow.Author.Needs.{needs}
-use Prim.Native.Nat.{_≤_, _-_, _+_}
-use mathlib.Core.Path.{_≡_, sym, _∙_, ap, refl}
-use Rattle.text.proofs.Steps.{line-stop, line-end, line-on, end-short}
-use Prim.Native.Nat.{_≤_, _+_, _-_}
-use lib.ListN.{length, drop}
-use Rattle.text.specs.Lines.{lineSize, lineStep}
-use mathlib.Core.Path.{_≡_}
+use Rattle.text.specs.Held.{Passes}
+use lib.ListN.{length}
+use Prim.Native.Nat.{_-_}
 use Rattle.text.proofs.first_line.Statement.{statement}
 use Rattle.text.proofs.first_line.Tie as tie
+use Rattle.text.proofs.first_line.Reads as reads
+use Rattle.text.proofs.first_line.Lts as lts
+use Rattle.text.proofs.end_at.Reads as end-at-reads
+use Rattle.text.proofs.is_quiet.Reads as is-quiet-reads
 
 abbrev Inv-loop : tie.InvT-loop
-Inv-loop m i₀ i = (i ≤ length m) × (lineSize m ≡ i + lineSize (drop i m)) × (lineStep m ≡ i + lineStep (drop i m))
+Inv-loop m i₀ i = Passes i m
 
 abbrev μ-loop : tie.MeasureT-loop
 μ-loop m i₀ i = length m - i
 
-loop-holds : tie.Need-loop-holds Inv-loop μ-loop
+abbrev Inv-loop2 : tie.InvT-loop2
+Inv-loop2 m i₀ i = Passes i m
+
+abbrev μ-loop2 : tie.MeasureT-loop2
+μ-loop2 m i₀ i = length m - i
+
+loop-holds : tie.Need-loop-holds Inv-loop μ-loop Inv-loop2 μ-loop2
 loop-holds c = search needs
 
-end-at-requires : tie.Need-end-at-requires Inv-loop μ-loop
-end-at-requires c κs = search needs
+is-quiet-requires : tie.Need-is-quiet-requires Inv-loop μ-loop Inv-loop2 μ-loop2
+is-quiet-requires c κs = search needs
 
-add-t6 : tie.Need-add-t6 Inv-loop μ-loop
-add-t6 c = omega (arith, c .before .end-at .ensures, end-short (drop (c .before .before .before .loop .i) (c .before .before .before .before .before .args .m .now)))
-
-returns : tie.Need-returns Inv-loop μ-loop
-returns c = let m = c .before .before .before .before .before .args .m .now in let l = c .before .before .before .loop in let e = c .before .end-at .ensures in let h = line-end m (l .i) (search needs) (λ z. c .if1 .taken (e ∙ z)) in let s : l .i ≡ lineSize m = omega (arith, l .inv, h) in let n : l .i + c .before .end-at .result ≡ lineStep m = omega (arith, l .inv, h, e) in λ i. record { size = s i; next = n i }
-
-add-i : tie.Need-add-i Inv-loop μ-loop
+add-i : tie.Need-add-i Inv-loop μ-loop Inv-loop2 μ-loop2
 add-i c = search needs
 
-loop-less : tie.Need-loop-less Inv-loop μ-loop
-loop-less c = search needs
+loop-less : tie.Need-loop-less Inv-loop μ-loop Inv-loop2 μ-loop2
+loop-less c = let q = c .before in let l = q .before .loop in let p = passes-join (l .inv) (q .is-quiet .ensures (c .if1 .taken)) in let w = p .within in omega arith
 
-loop-again : tie.Need-loop-again Inv-loop μ-loop
-loop-again c = let m = c .before .before .before .before .before .args .m .now in let l = c .before .before .before .loop in let h = line-on m (l .i) (search needs) (sym (c .before .end-at .ensures) ∙ c .if1 .left) in (omega arith, omega (arith, l .inv, h), omega (arith, l .inv, h))
+loop-again : tie.Need-loop-again Inv-loop μ-loop Inv-loop2 μ-loop2
+loop-again c = let q = c .before in passes-join (q .before .loop .inv) (q .is-quiet .ensures (c .if1 .taken))
 
-returns-2 : tie.Need-returns-2 Inv-loop μ-loop
-returns-2 c = let m = c .before .before .before .args .m .now in let l = c .before .loop in let h = line-stop m (l .i) (search needs) in let s : l .i ≡ lineSize m = omega (arith, l .inv, h) in let n : l .i ≡ lineStep m = omega (arith, l .inv, h) in λ i. record { size = s i; next = n i }
+loop2-holds : tie.Need-loop2-holds Inv-loop μ-loop Inv-loop2 μ-loop2
+loop2-holds c = search needs
+
+end-at-requires : tie.Need-end-at-requires Inv-loop μ-loop Inv-loop2 μ-loop2
+end-at-requires c κs = search needs
+
+add-t7 : tie.Need-add-t7 Inv-loop μ-loop Inv-loop2 μ-loop2
+add-t7 c = let l = c .before .before .before in omega (arith, c .before .end-at .ensures, end-short (drop (l .loop2 .i) (l .before .before .before .before .before .args .m .now)))
+
+returns : tie.Need-returns Inv-loop μ-loop Inv-loop2 μ-loop2
+returns c = line-ended (c .before .before .before .loop2 .inv) (c .before .before .loop2-test .taken) (c .if2 .taken) (c .before .end-at .ensures)
+
+add-i-2 : tie.Need-add-i-2 Inv-loop μ-loop Inv-loop2 μ-loop2
+add-i-2 c = search needs
+
+loop2-less : tie.Need-loop2-less Inv-loop μ-loop Inv-loop2 μ-loop2
+loop2-less c = search needs
+
+loop2-again : tie.Need-loop2-again Inv-loop μ-loop Inv-loop2 μ-loop2
+loop2-again c = let l = c .before .before .before in passes-join (l .loop2 .inv) (passes-one (l .before .before .before .before .before .args .m .now) (l .loop2 .i) (c .before .before .loop2-test .taken) (sym (c .before .end-at .ensures) ∙ c .if2 .left))
+
+returns-2 : tie.Need-returns-2 Inv-loop μ-loop Inv-loop2 μ-loop2
+returns-2 c = line-stopped (c .before .loop2 .inv) (search needs)
 
 pub first-line-spec : {M : Type 1} → statement M
 first-line-spec =
@@ -46,11 +70,18 @@ first-line-spec =
     (tie.spec
     Inv-loop
     μ-loop
+    Inv-loop2
+    μ-loop2
     loop-holds
-    end-at-requires
-    add-t6
-    returns
+    is-quiet-requires
     add-i
     loop-less
     loop-again
+    loop2-holds
+    end-at-requires
+    add-t7
+    returns
+    add-i-2
+    loop2-less
+    loop2-again
     returns-2)

@@ -1,0 +1,26 @@
+use Rattle.text.specs.Laws.Tests.{tests}
+use Rattle.front.specs.Front.{frontAnswer}
+use Rattle.text.specs.Lines.{front}
+use borrow.Author.Needs.{needs}
+use Rattle.front.proofs.front_answer.Statement.{statement}
+use Rattle.front.proofs.front_answer.Tie as tie
+use Rattle.front.proofs.front_answer.Reads as reads
+use Rattle.front.proofs.front_answer.Lts as lts
+use Rattle.front.proofs.blank_front.Reads as blank-front-reads
+
+-- src/lib.rt:204:13
+blank-front-requires : tie.Need-blank-front-requires
+blank-front-requires c κs = search needs
+
+-- src/lib.rt:205:9
+returns : tie.Need-returns
+unfolding frontAnswer front
+returns c = simp (← (c .blank-front .ensures)) (search tests)
+
+-- src/lib.rt:200:1
+returns-2 : tie.Need-returns-2
+unfolding frontAnswer front
+returns-2 c = search tests
+
+pub front-answer-spec : {M : Type 1} → statement M
+front-answer-spec = tie.close (tie.spec blank-front-requires returns returns-2)

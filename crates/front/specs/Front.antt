@@ -1,0 +1,105 @@
+-- Lines 1 to 5: filled in line by line, as the code reads them, and one under the other, as it puts them; what the code's answers say.
+use Prim.Native.Nat.{ℕ, zero, suc, _≤_}
+use mathlib.Core.Path.{_≡_}
+use mathlib.Core.List.{List, [], _∷_, _++_}
+use mathlib.Core.Bool.{true}
+use lib.Dec.{eqb, ltb}
+use lib.ListN.{length, drop}
+use Rattle.text.specs.Choice.{pick}
+use Rattle.text.specs.Piece.{canonical}
+use Rattle.text.specs.Lines.{lines, lineStep, linesSize}
+use Rattle.text.specs.Read.{Got, misfit, got, readAs, whole}
+use Rattle.heading.specs.declared.Addresses.{Addresses}
+use Rattle.heading.specs.declared.Filing.{Filing}
+use Rattle.heading.specs.declared.Title.{Title}
+use Rattle.heading.specs.Addresses.{readAddresses, addressesPieces}
+use Rattle.heading.specs.Filing.{readFiling, filingPieces}
+use Rattle.heading.specs.Heading.{Heading, aerodromeSize, readHeading, readSerialLine, readAerodrome, headingPieces, serialPieces, aerodromePieces}
+use Rattle.heading.specs.Answers.{zeros, blankAddresses, blankFiling, blankTitle}
+use Rattle.text.specs.Out.{Out, refuse, taken, next, fit}
+use Rattle.front.specs.declared.Front.{Front}
+use Rattle.front.specs.declared.LineInto.{LineInto}
+use Rattle.front.specs.declared.FrontStep.{FrontStep}
+use Rattle.front.specs.declared.FrontRead.{FrontRead}
+
+abbrev pub blankFront : Front
+blankFront = record { addresses = blankAddresses; filing = blankFiling; title = blankTitle; time = 0; serial = 0; aerodrome = zeros aerodromeSize }
+
+-- the front with one line more
+abbrev pub withAddresses : Front → Addresses → Front
+withAddresses f a = record { addresses = a; filing = f .filing; title = f .title; time = f .time; serial = f .serial; aerodrome = f .aerodrome }
+
+abbrev pub withFiling : Front → Filing → Front
+withFiling f x = record { addresses = f .addresses; filing = x; title = f .title; time = f .time; serial = f .serial; aerodrome = f .aerodrome }
+
+abbrev pub withHeading : Front → Heading → Front
+withHeading f h = record { addresses = f .addresses; filing = f .filing; title = h .title; time = h .time; serial = f .serial; aerodrome = f .aerodrome }
+
+abbrev pub withSerial : Front → ℕ → Front
+withSerial f n = record { addresses = f .addresses; filing = f .filing; title = f .title; time = f .time; serial = n; aerodrome = f .aerodrome }
+
+abbrev pub withAerodrome : Front → List ℕ → Front
+withAerodrome f a = record { addresses = f .addresses; filing = f .filing; title = f .title; time = f .time; serial = f .serial; aerodrome = a }
+
+abbrev pub headingOf : Front → Heading
+headingOf f = record { title = f .title; time = f .time }
+
+-- how many lines there are
+abbrev pub frontCount : ℕ
+frontCount = 5
+
+-- a line by its place, counted from 0, read whole into the front
+unfoldable pub fillLine : ℕ → Front → List ℕ → Got Front
+fillLine k f l =
+    pick (eqb k 0) (readAs (withAddresses f) (λ m. whole (readAddresses m)) l)
+    (pick (eqb k 1) (readAs (withFiling f) (λ m. whole (readFiling m)) l)
+    (pick (eqb k 2) (readAs (withHeading f) (λ m. whole (readHeading m)) l)
+    (pick (eqb k 3) (readAs (withSerial f) (λ m. whole (readSerialLine m)) l)
+    (readAs (withAerodrome f) (λ m. whole (readAerodrome m)) l))))
+
+-- its refusal, also where it is missing
+unfoldable pub lineRefusal : ℕ → ℕ
+lineRefusal k = pick (ltb k 2) 2 (pick (eqb k 2) 3 4)
+
+-- one line more, and the lines behind it
+unfoldable pub nextLine : ℕ → Front → List (List ℕ) → Out (Front × List (List ℕ))
+nextLine k f [] = refuse (lineRefusal k)
+nextLine k f (l ∷ ls) = fit (lineRefusal k) (fillLine k f l) (λ g. taken (g, ls))
+
+-- n lines from the line k on
+unfoldable pub fillLines : ℕ → ℕ → Front → List (List ℕ) → Out (Front × List (List ℕ))
+fillLines zero k f ls = taken (f, ls)
+fillLines (suc n) k f ls = next (nextLine k f ls) (λ p. fillLines n (suc k) (p .0) (p .1))
+
+-- the answer r is the reading g of a line
+pub record Filled (g : Got Front) (r : LineInto) : Type 0 where
+  pub says : g ≡ pick (r .fits) (got (r .front) []) misfit
+
+-- the answer r is the line k at the front of the message m, read into f
+pub record Stepped (k : ℕ) (f : Front) (m : List ℕ) (r : FrontStep) : Type 0 where
+  pub within : r .next ≤ length m
+  pub says : nextLine k f (lines m) ≡ pick (r .fits) (taken (r .front, lines (drop (r .next) m))) (refuse (lineRefusal k))
+  pub place : r .fits ≡ true → r .next ≡ lineStep m
+
+-- a refused reading is blank
+abbrev pub noFront : ℕ → FrontRead
+noFront n = record { refusal = n; front = blankFront; next = 0 }
+
+unfoldable pub frontAnswer : ℕ → Front → ℕ → FrontRead
+frontAnswer n f at = pick (eqb n 0) (record { refusal = 0; front = f; next = at }) (noFront n)
+
+-- the answer r is the reading of the front of m; what is below it starts behind five lines
+pub record FrontHeld (m : List ℕ) (r : FrontRead) : Type 0 where
+  pub within : r .next ≤ length m
+  pub says : fillLines frontCount 0 blankFront (lines m) ≡ pick (eqb (r .refusal) 0) (taken (r .front, lines (drop (r .next) m))) (refuse (r .refusal))
+  pub place : r .next ≡ pick (eqb (r .refusal) 0) (linesSize frontCount m) 0
+  pub blank : r ≡ pick (eqb (r .refusal) 0) r (noFront (r .refusal))
+
+-- lines 1 to 5, one under the other
+abbrev pub frontText : Addresses → Filing → Title → ℕ → List ℕ
+frontText addresses filing title time =
+    canonical (addressesPieces addresses)
+    ++ ((10 ∷ canonical (filingPieces filing))
+    ++ ((10 ∷ canonical (headingPieces (record { title = title; time = time })))
+    ++ ((10 ∷ canonical (serialPieces (title .serial)))
+    ++ (10 ∷ canonical (aerodromePieces (title .aerodrome))))))

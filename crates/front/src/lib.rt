@@ -1,0 +1,295 @@
+// Lines 1 to 5 of a notice: read one after the other, and put one under the other.
+
+ghost use mathlib.Core.Path.{_≡_};
+ghost use mathlib.Core.List.{_∷_};
+ghost use Rattle.text.specs.Read.{readAs, whole};
+ghost use Rattle.text.specs.Piece.{canonical};
+ghost use Rattle.text.specs.Put.{Put};
+ghost use Rattle.heading.specs.Addresses.{readAddresses};
+ghost use Rattle.heading.specs.Filing.{readFiling, filingPieces};
+ghost use Rattle.heading.specs.Heading.{readHeading, readSerialLine, readAerodrome, headingPieces, serialPieces, aerodromePieces};
+ghost use Rattle.front.specs.Front.{blankFront, withAddresses, withFiling, withHeading, withSerial, withAerodrome, fillLine, lineRefusal, frontAnswer, frontText, Filled, Stepped, FrontHeld};
+use heading::Addresses;
+use heading::Filing;
+use heading::Title;
+use heading::put_addresses;
+use heading::put_aerodrome;
+use heading::put_filing;
+use heading::put_heading;
+use heading::put_serial;
+use heading::read_addresses;
+use heading::read_aerodrome;
+use heading::read_filing;
+use heading::read_heading;
+use heading::read_serial;
+use text::first_line;
+use text::place;
+use text::put;
+use text::told_behind;
+
+// ---- Reading
+
+// What lines 1 to 5 say, as far as they are read.
+pub struct Front {
+    pub addresses: Addresses,
+    pub filing: Filing,
+    // line 3
+    pub title: Title,
+    pub time: u32,
+    // lines 4 and 5, which repeat two of its groups
+    pub serial: u32,
+    pub aerodrome: [u8; 4],
+}
+
+// The front with a line more, where the line fits.
+struct LineInto {
+    fits: bool,
+    front: Front,
+}
+
+// The same for the line at the front of a message, and where the next line starts.
+struct FrontStep {
+    fits: bool,
+    front: Front,
+    next: usize,
+}
+
+// The front of a message; what is below it starts at `next`. Blank where a line does not fit, with the refusal of the first such.
+pub struct FrontRead {
+    pub refusal: u8,
+    pub front: Front,
+    pub next: usize,
+}
+
+const LINES: u8 = 5;
+
+pub fn blank_front() -> Front
+    ensures { λ r. ⌜ r ≡ blankFront ⌝ }
+{
+    Front {
+        addresses: Addresses {
+            priority: 0,
+            count: 0,
+            letters: [0; 64],
+        },
+        filing: Filing {
+            time: 0,
+            originator: [0; 8],
+        },
+        title: Title {
+            region: [0; 2],
+            serial: 0,
+            aerodrome: [0; 4],
+        },
+        time: 0,
+        serial: 0,
+        aerodrome: [0; 4],
+    }
+}
+
+fn addresses_into(front: Front, line: &[u8]) -> LineInto
+    ensures { λ r. ⌜ Filled (readAs (withAddresses front) (λ m. whole (readAddresses m)) (now (line .entry))) r ⌝ }
+{
+    let read = read_addresses(line);
+    let addresses = read.addresses;
+    let mut f = front;
+    f.addresses = addresses;
+    LineInto {
+        fits: read.fits,
+        front: f,
+    }
+}
+
+fn filing_into(front: Front, line: &[u8]) -> LineInto
+    ensures { λ r. ⌜ Filled (readAs (withFiling front) (λ m. whole (readFiling m)) (now (line .entry))) r ⌝ }
+{
+    let read = read_filing(line);
+    let filing = read.filing;
+    let mut f = front;
+    f.filing = filing;
+    LineInto {
+        fits: read.fits,
+        front: f,
+    }
+}
+
+fn heading_into(front: Front, line: &[u8]) -> LineInto
+    ensures { λ r. ⌜ Filled (readAs (withHeading front) (λ m. whole (readHeading m)) (now (line .entry))) r ⌝ }
+{
+    let read = read_heading(line);
+    let title = read.title;
+    let mut f = front;
+    f.title = title;
+    f.time = read.time;
+    LineInto {
+        fits: read.fits,
+        front: f,
+    }
+}
+
+fn serial_into(front: Front, line: &[u8]) -> LineInto
+    ensures { λ r. ⌜ Filled (readAs (withSerial front) (λ m. whole (readSerialLine m)) (now (line .entry))) r ⌝ }
+{
+    let read = read_serial(line);
+    let mut f = front;
+    f.serial = read.value;
+    LineInto {
+        fits: read.fits,
+        front: f,
+    }
+}
+
+fn aerodrome_into(front: Front, line: &[u8]) -> LineInto
+    ensures { λ r. ⌜ Filled (readAs (withAerodrome front) (λ m. whole (readAerodrome m)) (now (line .entry))) r ⌝ }
+{
+    let read = read_aerodrome(line);
+    let aerodrome = read.aerodrome;
+    let mut f = front;
+    f.aerodrome = aerodrome;
+    LineInto {
+        fits: read.fits,
+        front: f,
+    }
+}
+
+// The lines in their order.
+fn line_into(k: u8, front: Front, line: &[u8]) -> LineInto
+    ensures { λ r. ⌜ Filled (fillLine k front (now (line .entry))) r ⌝ }
+{
+    match k {
+        0 => addresses_into(front, line),
+        1 => filing_into(front, line),
+        2 => heading_into(front, line),
+        3 => serial_into(front, line),
+        _ => aerodrome_into(front, line),
+    }
+}
+
+// Line `k`, counted from 0, at the front of `m`.
+fn next_line(k: u8, front: Front, m: &[u8]) -> FrontStep
+    ensures { λ r. ⌜ Stepped k front (now (m .entry)) r ⌝ }
+{
+    if m.len() == 0 {
+        return FrontStep {
+            fits: false,
+            front,
+            next: 0,
+        };
+    }
+    let line = first_line(m);
+    let size = line.size;
+    let read = line_into(k, front, &m[..size]);
+    let f = read.front;
+    FrontStep {
+        fits: read.fits,
+        front: f,
+        next: line.next,
+    }
+}
+
+// The number of a line that is missing or does not fit.
+fn line_refusal(k: u8) -> u8
+    ensures { λ r. ⌜ r ≡ lineRefusal k ⌝ }
+{
+    if k < 2 {
+        return 2;
+    }
+    if k == 2 { 3 } else { 4 }
+}
+
+fn front_answer(refusal: u8, front: Front, at: usize) -> FrontRead
+    ensures { λ r. ⌜ r ≡ frontAnswer refusal front at ⌝ }
+{
+    if refusal != 0 {
+        let blank = blank_front();
+        return FrontRead {
+            refusal,
+            front: blank,
+            next: 0,
+        };
+    }
+    FrontRead {
+        refusal: 0,
+        front,
+        next: at,
+    }
+}
+
+// Lines 1 to 5: the first that is missing or does not fit decides.
+pub fn read_front(m: &[u8]) -> FrontRead
+    ensures { λ r. ⌜ FrontHeld (now (m .entry)) r ⌝ }
+{
+    let mut front = blank_front();
+    let mut at: usize = 0;
+    let mut k: u8 = 0;
+    let refusal: u8 = 'lines: loop {
+        if LINES <= k {
+            break 'lines 0;
+        }
+        let step = next_line(k, front, &m[at..]);
+        if !step.fits {
+            break 'lines line_refusal(k);
+        }
+        front = step.front;
+        at += step.next;
+        k += 1;
+    };
+    front_answer(refusal, front, at)
+}
+
+// ---- Writing
+
+// Lines 2 to 5, each under the line before it; its writer is lent the rest of the buffer.
+fn filing_under(out: &mut [u8], at: usize, f: Filing) -> usize
+    ensures { λ r. ⌜ Put at (10 ∷ canonical (filingPieces f)) (now (out .entry)) (now (out .exit)) r ⌝ }
+{
+    let line = put(out, at, b"\n");
+    let start = place(out, line);
+    let n = put_filing(&mut out[start..], f);
+    told_behind(out, line, n)
+}
+
+fn heading_under(out: &mut [u8], at: usize, t: Title, time: u32) -> usize
+    ensures { λ r. ⌜ Put at (10 ∷ canonical (headingPieces (record { title = t; time = time }))) (now (out .entry)) (now (out .exit)) r ⌝ }
+{
+    let line = put(out, at, b"\n");
+    let start = place(out, line);
+    let n = put_heading(&mut out[start..], t, time);
+    told_behind(out, line, n)
+}
+
+fn serial_under(out: &mut [u8], at: usize, serial: u16) -> usize
+    ensures { λ r. ⌜ Put at (10 ∷ canonical (serialPieces serial)) (now (out .entry)) (now (out .exit)) r ⌝ }
+{
+    let line = put(out, at, b"\n");
+    let start = place(out, line);
+    let n = put_serial(&mut out[start..], serial);
+    told_behind(out, line, n)
+}
+
+fn aerodrome_under(out: &mut [u8], at: usize, aerodrome: [u8; 4]) -> usize
+    ensures { λ r. ⌜ Put at (10 ∷ canonical (aerodromePieces aerodrome)) (now (out .entry)) (now (out .exit)) r ⌝ }
+{
+    let line = put(out, at, b"\n");
+    let start = place(out, line);
+    let n = put_aerodrome(&mut out[start..], aerodrome);
+    told_behind(out, line, n)
+}
+
+// Puts lines 1 to 5, and answers how many bytes they have.
+pub fn put_front(
+    out: &mut [u8],
+    addresses: Addresses,
+    filing: Filing,
+    title: Title,
+    time: u32,
+) -> usize
+    ensures { λ n. ⌜ Put 0 (frontText addresses filing title time) (now (out .entry)) (now (out .exit)) n ⌝ }
+{
+    let at = put_addresses(out, addresses);
+    let at = filing_under(out, at, filing);
+    let at = heading_under(out, at, title, time);
+    let at = serial_under(out, at, title.serial);
+    let aerodrome = title.aerodrome;
+    aerodrome_under(out, at, aerodrome)
+}
