@@ -2,6 +2,7 @@
 
 mod bound {
     extern "C" {
+        pub fn phengaryl_read(message: *const u8, n: usize) -> u8;
         pub fn phengaryl_list(message: *const u8, n: usize, out: *mut u8, room: usize) -> usize;
         pub fn phengaryl_canonical(message: *const u8, n: usize, out: *mut u8, room: usize, length: *mut usize) -> u8;
         pub fn phengaryl_same(a: *const u8, n: usize, b: *const u8, k: usize) -> bool;
@@ -23,6 +24,11 @@ mod bound {
         ) -> u8;
         pub fn phengaryl_desk(input: *const u8, n: usize, out: *mut u8, room: usize) -> usize;
     }
+}
+
+/// The refusal (0 to 12).
+pub fn read(message: &[u8]) -> u8 {
+    unsafe { bound::phengaryl_read(message.as_ptr(), message.len()) }
 }
 
 /// The listing's length; `out` is filled as far as there is room.

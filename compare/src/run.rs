@@ -39,6 +39,11 @@ fn message(rng: &mut Rng, report: &mut Report) {
     };
     report.count(refusal);
 
+    let number = library::read(&message);
+    if number != refusal {
+        report.differ("reading", &message, &refusal.to_string(), &number.to_string());
+    }
+
     let room_for_text = room(rng, text.len());
     let expected = match refusal {
         0 if room_for_text < text.len() => (14, 0, vec![UNTOUCHED; room_for_text]),
