@@ -5,17 +5,17 @@ use mathlib.Core.List.{List, [], _∷_, _++_, append-assoc, append-nil}
 use mathlib.Core.Bool.{true, false}
 use native.Mathlib.Numerals.{add-one}
 use native.Mathlib.Omega.{arith}
-use lib.ListN.{length, take, drop, set, replicate, getD, length-append, length-take, drop-of-length-le}
-use lib.Seq.{drop-cons, getD-take, length-take-le, take-suc-set}
+use lib.ListN.{length, take, drop, set, replicate, getD, length-take, drop-of-length-le}
+use lib.Seq.{drop-cons, length-take-le, take-suc-set}
 use Rattle.text.specs.Arrays.{pad}
 use Rattle.text.specs.Read.{Got, misfit, got, guard, andThen, whole, skip, oneMore, readText, readLoose, readMany}
 use Rattle.text.specs.Names.{readName}
 use Rattle.text.specs.Held.{Reached}
 use Rattle.text.specs.Laws.Base.{skip-stops}
-use Rattle.text.specs.Laws.Arrays.{pad-length, pad-more, all-end, all-on, all-off}
+use Rattle.text.specs.Laws.Arrays.{pad-length, pad-more}
 use Rattle.items.specs.declared.Item.{Item}
 use Rattle.items.specs.ReadItem.{readItem, readBody}
-use Rattle.items.specs.Awareness.{mayFollow, mayPrecede, inOrder, standsBehind, mostItems, blankItem, readAwareness, wholeAwareness}
+use Rattle.items.specs.Awareness.{inOrder, standsBehind, mostItems, blankItem, readAwareness, wholeAwareness}
 use Rattle.items.specs.Laws.Order.{order-on, order-off}
 use Rattle.awareness.specs.declared.ItemFound.{ItemFound}
 use Rattle.awareness.specs.Held.{HeldItem, itemsAnswer}
@@ -93,25 +93,11 @@ module _ {l : List ℕ} {items : List Item} {count behind at : ℕ} (s : SoFar l
   abbrev is : List Item
   is = take count items
 
-  size : length items ≡ mostItems
+  pub size : length items ≡ mostItems
   size = let f = s .few in ap length (s .kept) ∙ pad-length mostItems blankItem is (rw length-take (omega arith))
 
   counted : length is ≡ count
   counted = let f = s .few in length-take-le count items (omega (arith, size))
-
-  -- whether one may stand behind those from the k-th on
-  module _ (i : Item) (k : ℕ) where
-    pub behind-all : count ≤ k → standsBehind (drop k is) i ≡ true
-    behind-all h = all-end (mayPrecede i) blankItem is k (omega (arith, counted))
-
-    module _ (z : Item) (h : k < count) where
-      pub behind-one : mayFollow (getD items k z) i ≡ true → standsBehind (drop k is) i ≡ standsBehind (drop (k + 1) is) i
-      unfolding mayPrecede
-      behind-one e = all-on (mayPrecede i) z is k (omega (arith, counted)) (ap (mayPrecede i) (getD-take count items k z h) ∙ e)
-
-      pub not-behind : mayFollow (getD items k z) i ≡ false → standsBehind (drop k is) i ≡ false
-      unfolding mayPrecede
-      not-behind e = all-off (mayPrecede i) z is k (omega (arith, counted)) (ap (mayPrecede i) (getD-take count items k z h) ∙ e)
 
   -- nothing is left behind the last item
   pub ends : length l ≤ behind → itemsAnswer (wholeAwareness l) ≡ record { fits = true; count = count; items = items }

@@ -1,7 +1,6 @@
 -- Taxiways as an item holds them, evaluated.
-use Prim.Native.Nat.{ℕ}
 use mathlib.Core.Path.{_≡_, refl}
-use mathlib.Core.List.{List, [], _∷_, _++_}
+use mathlib.Core.List.{[], _∷_, _++_}
 use lib.ListN.{replicate}
 use Rattle.text.specs.Arrays.{flat}
 use Rattle.text.specs.Piece.{bytes}

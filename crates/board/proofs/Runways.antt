@@ -1,16 +1,15 @@
 -- The runways of a line, taken one by one into their array.
 use Prim.Native.Nat.{ℕ, zero, suc, _+_, _-_, _<_, _≤_}
 use mathlib.Core.Path.{_≡_, refl, sym, _∙_, ap}
-use mathlib.Core.List.{List, [], _∷_, _++_}
+use mathlib.Core.List.{List, [], _∷_}
 use mathlib.Core.Bool.{true, false}
-use lib.ListN.{length, drop, getD, set, replicate, length-replicate, drop-of-length-le}
+use lib.ListN.{length, drop, getD, set, replicate, drop-of-length-le}
 use lib.Seq.{sets, drop-cons}
 use borrow.Author.Tests.{ne-eqb}
 use native.Mathlib.Numerals.{add-one}
 use native.Mathlib.Omega.{arith}
 use Rattle.text.specs.Read.{Got, misfit, got, andThen, whole, readAs, readMany}
 use Rattle.text.specs.Names.{readCount}
-use Rattle.text.specs.Arrays.{pad}
 use Rattle.text.specs.Laws.Many.{many-laws}
 use Rattle.text.specs.Laws.Put.{over-zeros}
 use Rattle.runway.specs.declared.RunwayFound.{RunwayFound}

@@ -1,8 +1,8 @@
 -- "No runway twice": number and side together, evaluated.
 use Prim.Native.Nat.{ℕ}
 use mathlib.Core.Path.{_≡_, refl}
-use mathlib.Core.List.{List, [], _∷_, map}
-use mathlib.Core.Bool.{Bool, true, false}
+use mathlib.Core.List.{[], _∷_, map}
+use mathlib.Core.Bool.{true, false}
 use Rattle.text.specs.Choice.{_and_}
 use Rattle.row.specs.declared.Row.{Row}
 use Rattle.row.specs.Row.{blankRow}

@@ -2,7 +2,6 @@
 
 ghost use mathlib.Core.Path.{_≡_};
 ghost use Rattle.text.specs.Lines.{lines};
-ghost use Rattle.text.specs.Piece.{canonical};
 ghost use Rattle.text.specs.Put.{Put};
 ghost use Rattle.board.specs.Report.{rowAt};
 ghost use Rattle.board.specs.Line.{shownText};

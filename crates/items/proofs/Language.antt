@@ -4,11 +4,11 @@ use mathlib.Core.Path.{_≡_, refl, _∙_}
 use mathlib.Core.List.{List, [], _∷_}
 use mathlib.Core.Bool.{Bool, true, false, not}
 use native.Mathlib.Omega.{arith}
-use lib.Dec.{eqb, leb}
+use lib.Dec.{eqb}
 use lib.ListN.{length, getD, replicate}
 use lib.Seq.{sets}
-use borrow.Author.Tests.{le-leb, eqb-true}
-use Rattle.text.specs.Choice.{pick, _and_, all, headIs}
+use borrow.Author.Tests.{le-leb}
+use Rattle.text.specs.Choice.{_and_, all, headIs}
 use Rattle.text.specs.Read.{Got, misfit, got, guard, andThen}
 use Rattle.text.specs.Names.{isPlainByte, readCount}
 use Rattle.text.specs.Held.{fits}

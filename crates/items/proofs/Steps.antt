@@ -12,7 +12,6 @@ use Rattle.text.specs.Read.{got}
 use Rattle.text.specs.Names.{readCount}
 use Rattle.text.specs.Held.{fits}
 use Rattle.text.specs.Arrays.{slots, isZero}
-use Rattle.text.specs.Laws.Arrays.{all-end, all-on, all-off}
 use Rattle.text.specs.Laws.Held.{part-all}
 use Rattle.items.specs.Item.{validSlot, isNew, slotsFit, validItem}
 use Rattle.items.specs.Awareness.{inOrder, standsBehind, soundItems}
@@ -87,20 +86,6 @@ module _ (f : List ℕ) (at left : ℕ) {e : ℕ} (s : SlotEnd f at e) (h : 0 < 
 pub slots-end : (n : ℕ) (f : List ℕ) → n ≤ 0 → slotsFit n f ≡ all isZero f
 unfolding slotsFit
 slots-end n f h = let z : n ≡ 0 = omega arith in rw z
-
--- the same of the first n
-module _ {A : Type 0} (p : A → Bool) (z : A) (l : List A) (n k : ℕ) where
-  pub front-end : n ≤ k → all p (drop k (take n l)) ≡ true
-  front-end h = all-end p z (take n l) k (rw length-take (omega arith))
-
-  pub front-out : length l ≤ k → all p (drop k (take n l)) ≡ true
-  front-out h = all-end p z (take n l) k (rw length-take (omega arith))
-
-  pub front-on : k < n → k < length l → p (getD l k z) ≡ true → all p (drop k (take n l)) ≡ all p (drop (k + 1) (take n l))
-  front-on h i e = all-on p z (take n l) k (rw length-take (omega arith)) (ap p (getD-take n l k z h) ∙ e)
-
-  pub front-off : k < n → k < length l → p (getD l k z) ≡ false → all p (drop k (take n l)) ≡ false
-  front-off h i e = all-off p z (take n l) k (rw length-take (omega arith)) (ap p (getD-take n l k z h) ∙ e)
 
 -- what stands past an array's end
 abbrev pub outside : Item

@@ -9,7 +9,7 @@ ghost use Rattle.text.specs.Piece.{canonical, verbatim};
 ghost use Rattle.text.specs.Put.{Put};
 ghost use Rattle.text.specs.Arrays.{slots};
 ghost use Rattle.items.specs.Item.{letters, onRunway, highestRunway, isBetween, runwayFits, amountFits, edgeFits, countFits, validSlot, isNew, slotsFit, taxiwaysFit, nameFits, numbersFit, validItem};
-ghost use Rattle.items.specs.Awareness.{sameRunway, otherApron, mayRepeat, mayFollow, standsBehind, soundItems, isBlank, noNumbers, blankItem, isBlankItem, validItemArray};
+ghost use Rattle.items.specs.Awareness.{sameRunway, otherApron, mayRepeat, mayFollow, soundItems, isBlank, noNumbers, blankItem, isBlankItem, validItemArray};
 ghost use Rattle.items.specs.Language.{validLanguage, wholeLanguage, validLanguageArray};
 ghost use Rattle.items.specs.Held.{SlotEnd, languageAnswer};
 use runway::valid_runway;
@@ -345,24 +345,6 @@ pub fn may_follow(a: Item, b: Item) -> bool
     a.letter < b.letter
 }
 
-// Whether `i` may stand behind the first `n` of the items.
-pub fn stands_behind(items: [Item; 32], n: usize, i: Item) -> bool
-    ensures { λ r. ⌜ r ≡ standsBehind (take n items) i ⌝ }
-{
-    let mut k = 0;
-    while k < n {
-        if items.len() <= k {
-            return true;
-        }
-        let a = items[k];
-        k += 1;
-        if may_follow(a, i) {} else {
-            return false;
-        }
-    }
-    true
-}
-
 // ---- Items that are not there
 
 pub const BLANK_ITEM: Item = Item {
@@ -437,15 +419,19 @@ fn valid_front(items: [Item; 32], n: usize) -> bool
             return true;
         }
         let i = items[k];
-        if valid_item(i) {
-            if stands_behind(items, k, i) {
-                k += 1;
-            } else {
-                return false;
-            }
-        } else {
+        if !valid_item(i) {
             return false;
         }
+        // in place, since a call would copy the array for each item
+        let mut j = 0;
+        while j < k {
+            let a = items[j];
+            if !may_follow(a, i) {
+                return false;
+            }
+            j += 1;
+        }
+        k += 1;
     }
     true
 }

@@ -1,6 +1,6 @@
 -- How long a listing is, and that a rewriting leaves no choice.
 use Prim.Native.Nat.{ℕ, _≤_}
-use mathlib.Core.Path.{_≡_, refl, sym, _∙_, ap}
+use mathlib.Core.Path.{_≡_, refl, sym, _∙_}
 use mathlib.Core.List.{List}
 use mathlib.Core.Bool.{Bool, true, false}
 use lib.Dec.{eqb, leb}
@@ -15,7 +15,7 @@ use Rattle.notice.specs.Notice.{noticeText}
 use Rattle.notice.specs.Reading.{reading}
 use Rattle.notice.specs.Writing.{unwritten, writing}
 use Rattle.notice.specs.Theorems.{fits, refusal-range}
-use Rattle.listing.specs.Listing.{acceptedLine, listing}
+use Rattle.listing.specs.Listing.{listing}
 use Rattle.listing.specs.Rewriting.{rewriting, Rewrote}
 use Rattle.listing.specs.Laws.{read-valid, listed-accepted, listed-refused, accepted-size, refused-size}
 

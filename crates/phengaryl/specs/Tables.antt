@@ -1,7 +1,6 @@
 -- The order of the numbers that a caller in C hands over, evaluated.
-use Prim.Native.Nat.{ℕ}
 use mathlib.Core.Path.{_≡_, refl}
-use mathlib.Core.List.{List, [], _∷_, map}
+use mathlib.Core.List.{[], _∷_, map}
 use Rattle.surface.specs.Third.{third}
 use Rattle.phengaryl.specs.Numbers.{numbersOf, thirdsOf}
 use Rattle.phengaryl.specs.Narrow.{narrow}

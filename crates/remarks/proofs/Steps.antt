@@ -24,7 +24,7 @@ use Rattle.awareness.specs.declared.ItemsRead.{ItemsRead}
 use Rattle.awareness.specs.Held.{itemsAnswer}
 use Rattle.text.specs.Out.{refuse, fit, atEnd}
 use Rattle.body.specs.Rows.{more}
-use Rattle.body.specs.Remarks.{makeItems, makeLanguage, remarks, readLanguageLine, readRemarks}
+use Rattle.body.specs.Remarks.{makeLanguage, remarks, readLanguageLine, readRemarks}
 use Rattle.remarks.specs.declared.RemarksRead.{RemarksRead}
 use Rattle.remarks.specs.declared.Tail.{Tail}
 use Rattle.remarks.specs.Held.{noRemarks, remarksAnswer, noTail, ending, lastItems, lastLanguage, nextLanguage, itemsStep, joined}

@@ -1,9 +1,9 @@
 -- The values of the definitions, evaluated: a changed numeral or word fails here.
 use Prim.Native.Nat.{ℕ, zero, suc}
 use mathlib.Core.Path.{_≡_, refl}
-use mathlib.Core.List.{List, [], _∷_, _++_, map}
+use mathlib.Core.List.{List, [], _∷_, map}
 use mathlib.Core.Bool.{Bool, true, false}
-use Rattle.text.specs.Choice.{pick, _and_}
+use Rattle.text.specs.Choice.{pick}
 use Rattle.text.specs.Piece.{byte, gap, loose, end, last, nrGroups, bytes, spell, words, verbatim, canonical, nrText}
 use Rattle.text.specs.Read.{misfit, got, skip, readText, readGap, readLoose, readMany, whole}
 use Rattle.text.specs.Numbers.{isDigit, readDigits, digits, number, readNumber}

@@ -5,12 +5,14 @@ use mathlib.Core.Path.{_≡_, refl, sym, _∙_, ap}
 use mathlib.Core.Bool.{true}
 use mathlib.Core.Logic.{⊎-elim}
 use lib.ListN.{take, drop}
+use native.Mathlib.Omega.{arith}
 use borrow.Author.Tests.{not-true, not-false}
 use Rattle.text.specs.Choice.{pick}
 use Rattle.text.specs.Read.{misfit}
 use Rattle.items.specs.Awareness.{standsBehind, mostItems, wholeAwareness}
+use Rattle.items.specs.Laws.Order.{behind-all, behind-one, not-behind}
 use Rattle.awareness.specs.Held.{itemsAnswer}
-use Rattle.awareness.proofs.LineReading.{SoFar, begun, behind-all, behind-one, not-behind, ends, full, stray, misplaced, goes-on}
+use Rattle.awareness.proofs.LineReading.{SoFar, begun, size, ends, full, stray, misplaced, goes-on}
 use borrow.Author.Needs.{needs}
 use Rattle.awareness.proofs.read_awareness.Statement.{statement}
 use Rattle.awareness.proofs.read_awareness.Tie as tie
@@ -61,8 +63,8 @@ loop-again : tie.Need-loop-again Inv-loop μ-loop Inv-items μ-items
 loop-again c =
     let o = c .before .before .before .before in
     let p = o .before .before .before .before in
-    let s = p .before .before .before .items .inv in
-    o .loop .inv ∙ behind-one s (p .read-item .result .item) (o .loop .k) _ (c .before .before .before .loop-test .taken) (sym (c .before .may-follow .ensures) ∙ not-false (c .before .may-follow .result) (c .if4 .left))
+    let l = p .before .before .before .items in
+    o .loop .inv ∙ behind-one (l .items) (l .count) (p .read-item .result .item) (o .loop .k) _ (c .before .before .before .loop-test .taken) (omega (arith, size (l .inv))) (sym (c .before .may-follow .ensures) ∙ not-false (c .before .may-follow .result) (c .if4 .left))
 
 cast-items : tie.Need-cast-items Inv-loop μ-loop Inv-items μ-items
 cast-items c = search needs
@@ -86,20 +88,21 @@ items-again : tie.Need-items-again Inv-loop μ-loop Inv-items μ-items
 items-again c =
     let o = c .before .before in
     let p = o .before .before .before .before in
-    let s = p .before .before .before .items .inv in
+    let l = p .before .before .before .items in
     let r = p .read-item in
-    goes-on s (p .before .before .if1 .left) (p .before .if2 .left) (r .result) (r .ensures) (not-false (r .result .fits) (o .before .before .if3 .left))
-    (o .loop .inv ∙ behind-all s (r .result .item) (o .loop .k) (c .before .loop-test .left)) (c .spaces .ensures)
+    goes-on (l .inv) (p .before .before .if1 .left) (p .before .if2 .left) (r .result) (r .ensures) (not-false (r .result .fits) (o .before .before .if3 .left))
+    (o .loop .inv ∙ behind-all (l .items) (l .count) (r .result .item) (o .loop .k) (c .before .loop-test .left)) (c .spaces .ensures)
 
 -- the loop is left with the line's end or with the first misfit
 outcome : (c : tie.Joined1 Inv-loop μ-loop Inv-items μ-items) → (let l = c .before .items in pick (c .if1 .fits) (record { fits = true; count = l .count; items = l .items }) (itemsAnswer misfit)) ≡ itemsAnswer (wholeAwareness (c .before .before .before .before .before .args .line .now))
 outcome c =
-    let s = c .before .items .inv in
+    let l = c .before .items in
+    let s = l .inv in
     ⊎-elim (λ w. rw (w .1) (sym (ends s (w .0 .taken))))
     (⊎-elim (λ w. rw (w .2) (ap itemsAnswer (sym (full s (w .0 .left) (w .1 .taken)))))
     (⊎-elim (λ w. rw (w .5) (ap itemsAnswer (sym (stray s (w .0 .left) (w .1 .left) (w .2 .result) (w .2 .ensures) (not-true (w .2 .result .fits) (w .4 .taken))))))
     (λ w. rw (w .11) (ap itemsAnswer (sym (misplaced s (w .0 .left) (w .1 .left) (w .2 .result) (w .2 .ensures) (not-false (w .2 .result .fits) (w .4 .left))
-    (w .6 .inv ∙ not-behind s (w .2 .result .item) (w .6 .k) _ (w .7 .taken) (sym (w .9 .ensures) ∙ not-true (w .9 .result) (w .10 .taken))))))))) (c .if1 .came)
+    (w .6 .inv ∙ not-behind (l .items) (l .count) (w .2 .result .item) (w .6 .k) _ (w .7 .taken) (omega (arith, size s)) (sym (w .9 .ensures) ∙ not-true (w .9 .result) (w .10 .taken))))))))) (c .if1 .came)
 
 returns : tie.Need-returns Inv-loop μ-loop Inv-items μ-items
 returns c = rw (c .if5 .taken) at (outcome (c .before))

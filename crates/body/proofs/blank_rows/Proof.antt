@@ -2,9 +2,6 @@ use Rattle.text.specs.Laws.Tests.{tests}
 use borrow.Author.Needs.{needs}
 use Rattle.body.proofs.blank_rows.Statement.{statement}
 use Rattle.body.proofs.blank_rows.Tie as tie
-use Rattle.body.proofs.blank_rows.Reads as reads
-use Rattle.body.proofs.blank_rows.Lts as lts
-use Rattle.row.proofs.blank_row.Reads as blank-row-reads
 
 -- src/lib.rt:315:9
 blank-row-requires : tie.Need-blank-row-requires

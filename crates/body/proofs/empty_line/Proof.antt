@@ -4,9 +4,6 @@ use Rattle.text.specs.Lines.{closed}
 use borrow.Author.Needs.{needs}
 use Rattle.body.proofs.empty_line.Statement.{statement}
 use Rattle.body.proofs.empty_line.Tie as tie
-use Rattle.body.proofs.empty_line.Reads as reads
-use Rattle.body.proofs.empty_line.Lts as lts
-use Rattle.body.proofs.stopped.Reads as stopped-reads
 
 -- src/lib.rt:240:9
 stopped-requires : tie.Need-stopped-requires

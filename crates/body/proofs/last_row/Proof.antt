@@ -5,9 +5,6 @@ use Rattle.text.specs.Lines.{closed}
 use borrow.Author.Needs.{needs}
 use Rattle.body.proofs.last_row.Statement.{statement}
 use Rattle.body.proofs.last_row.Tie as tie
-use Rattle.body.proofs.last_row.Reads as reads
-use Rattle.body.proofs.last_row.Lts as lts
-use Rattle.body.proofs.stopped.Reads as stopped-reads
 
 -- src/lib.rt:256:9
 stopped-requires : tie.Need-stopped-requires

@@ -3,9 +3,6 @@ use Rattle.body.specs.Rows.{latestOf}
 use borrow.Author.Needs.{needs}
 use Rattle.body.proofs.later_of.Statement.{statement}
 use Rattle.body.proofs.later_of.Tie as tie
-use Rattle.body.proofs.later_of.Reads as reads
-use Rattle.body.proofs.later_of.Lts as lts
-use Rattle.runway.proofs.is_later.Reads as is-later-reads
 
 -- src/lib.rt:147:8
 is-later-requires : tie.Need-is-later-requires

@@ -1,7 +1,7 @@
 use Prim.Native.Nat.{_≤_, _-_}
-use mathlib.Core.Path.{_≡_, refl, sym, _∙_}
+use mathlib.Core.Path.{_≡_, sym, _∙_}
 use native.Mathlib.Omega.{arith}
-use lib.ListN.{length, take, drop, length-map}
+use lib.ListN.{length, drop, length-map}
 use Rattle.body.specs.Rows.{latest, latestFrom, rowsOf}
 use Rattle.body.proofs.Loops.{none-used, none-left, latest-first, latest-next, latest-none, latest-zero}
 use borrow.Author.Needs.{needs}

@@ -1,8 +1,7 @@
-use mathlib.Core.Path.{_≡_, ap}
+use mathlib.Core.Path.{ap}
 use native.Mathlib.Omega.{arith}
 use lib.ListN.{length-take}
 use borrow.Author.Tests.{eq-eqb, ne-eqb, le-leb, lt-leb}
-use Rattle.text.specs.Lines.{lineSize, lineStep}
 use Rattle.body.specs.Held.{nextRow}
 use Rattle.text.specs.Laws.Lines.{size-within}
 use borrow.Author.Needs.{needs}

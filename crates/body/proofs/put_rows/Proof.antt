@@ -2,8 +2,7 @@ use Rattle.text.specs.Laws.Put.{nothing-put}
 use native.Mathlib.Omega.{arith}
 use lib.ListN.{length-map}
 use Prim.Native.Nat.{_≤_, _-_}
-use mathlib.Core.Path.{_≡_, refl, sym, subst, _∙_, ap}
-use mathlib.Core.List.{[], _∷_}
+use mathlib.Core.Path.{_≡_, refl, sym, subst, _∙_}
 use lib.ListN.{length, take}
 use Rattle.text.specs.Put.{Put}
 use Rattle.text.specs.Laws.Put.{more}

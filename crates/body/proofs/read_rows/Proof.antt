@@ -1,4 +1,4 @@
-use mathlib.Core.Path.{_≡_, refl, sym, subst, _∙_, ap}
+use mathlib.Core.Path.{_≡_, sym, subst}
 use Rattle.body.specs.Held.{Kept, rowsFrom, RowsHeld}
 use Rattle.body.proofs.Steps.{answer-held, began, stepped, stays, again, fewer}
 use Prim.Native.Nat.{_≤_, _-_}

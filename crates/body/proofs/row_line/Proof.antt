@@ -1,9 +1,9 @@
 use Rattle.text.specs.Laws.Lines.{front-part}
 use Rattle.body.specs.Held.{rowLine}
 use Rattle.text.specs.Laws.Lines.{closed-some}
-use lib.ListN.{length, take, length-take}
+use lib.ListN.{length-take}
 use native.Mathlib.Omega.{arith}
-use mathlib.Core.Path.{_≡_, refl, sym, _∙_, ap}
+use mathlib.Core.Path.{sym, _∙_}
 use borrow.Author.Needs.{needs}
 use Rattle.body.proofs.row_line.Statement.{statement}
 use Rattle.body.proofs.row_line.Tie as tie

@@ -4,9 +4,6 @@ use Rattle.text.specs.Lines.{closed}
 use borrow.Author.Needs.{needs}
 use Rattle.body.proofs.rows_answer.Statement.{statement}
 use Rattle.body.proofs.rows_answer.Tie as tie
-use Rattle.body.proofs.rows_answer.Reads as reads
-use Rattle.body.proofs.rows_answer.Lts as lts
-use Rattle.body.proofs.no_rows.Reads as no-rows-reads
 
 -- src/lib.rt:338:9
 no-rows-requires : tie.Need-no-rows-requires

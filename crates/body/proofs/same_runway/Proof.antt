@@ -2,8 +2,6 @@ use Rattle.text.specs.Laws.Tests.{tests}
 use Rattle.body.specs.Rows.{sameRunway}
 use Rattle.body.proofs.same_runway.Statement.{statement}
 use Rattle.body.proofs.same_runway.Tie as tie
-use Rattle.body.proofs.same_runway.Reads as reads
-use Rattle.body.proofs.same_runway.Lts as lts
 
 -- src/lib.rt:54:9
 returns : tie.Need-returns

@@ -1,6 +1,6 @@
 use mathlib.Core.Path.{_≡_, sym, _∙_}
 use lib.ListN.{length, length-map}
-use borrow.Author.Tests.{le-leb, eq-eqb}
+use borrow.Author.Tests.{le-leb}
 use Rattle.text.specs.Choice.{_and_}
 use Rattle.text.specs.Laws.Tests.{tests}
 use Rattle.body.specs.Rows.{validRows}

@@ -3,8 +3,6 @@ use Rattle.body.specs.Held.{withRow}
 use borrow.Author.Needs.{needs}
 use Rattle.body.proofs.with_row.Statement.{statement}
 use Rattle.body.proofs.with_row.Tie as tie
-use Rattle.body.proofs.with_row.Reads as reads
-use Rattle.body.proofs.with_row.Lts as lts
 
 -- src/lib.rt:230:12
 cast-row : tie.Need-cast-row

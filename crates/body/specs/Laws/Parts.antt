@@ -1,10 +1,10 @@
 -- Lists and the arrays that hold them: what is valid as the one is valid as the other.
 use Prim.Native.Nat.{ℕ, suc, _≤_}
-use mathlib.Core.Path.{_≡_, refl, sym, subst, _∙_}
+use mathlib.Core.Path.{_≡_, refl, sym, subst}
 use mathlib.Core.List.{List, [], _∷_}
 use mathlib.Core.Bool.{Bool, true, false}
 use lib.Dec.{leb}
-use lib.ListN.{length, take, replicate}
+use lib.ListN.{length}
 use borrow.Author.Tests.{eqb-true, eq-eqb, leb-true, le-leb}
 use native.Mathlib.Omega.{arith}
 use Rattle.text.specs.Choice.{pick, _and_, all, isEmpty}

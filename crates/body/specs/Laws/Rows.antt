@@ -7,9 +7,9 @@ use lib.Dec.{lit<, lit≤}
 use lib.ListN.{length}
 use borrow.Author.Tests.{not-true}
 use native.Mathlib.Omega.{arith}
-use Rattle.text.specs.Choice.{pick, _and_, all, isEmpty}
+use Rattle.text.specs.Choice.{pick, all, isEmpty}
 use Rattle.text.specs.Piece.{Piece, Typed, Typing, done}
-use Rattle.text.specs.Read.{Got, misfit, got}
+use Rattle.text.specs.Read.{Got, got}
 use Rattle.text.specs.Numbers.{isDigit}
 use Rattle.text.specs.Lines.{closed, front, opened}
 use Rattle.text.specs.Laws.Base.{Laws, Head, true-false, and-1, and-2, and-i}
@@ -18,7 +18,7 @@ use Rattle.row.specs.declared.Row.{Row}
 use Rattle.row.specs.Row.{validRow, rowPieces}
 use Rattle.row.specs.Reading.{wholeRow}
 use Rattle.row.specs.Laws.Row.{row-laws}
-use Rattle.text.specs.Out.{Out, refuse, taken, fit, atEnd}
+use Rattle.text.specs.Out.{refuse, taken, fit, atEnd}
 use Rattle.body.specs.Rows.{isAmong, newRunways, After, finished, more, Block, block, readRows}
 use Rattle.text.specs.Laws.Out.{no-refuse, took, fit-took, end-took, Numbered, fit-numbered, pick-numbered, end-numbered}
 

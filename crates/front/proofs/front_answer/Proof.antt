@@ -4,9 +4,6 @@ use Rattle.text.specs.Lines.{front}
 use borrow.Author.Needs.{needs}
 use Rattle.front.proofs.front_answer.Statement.{statement}
 use Rattle.front.proofs.front_answer.Tie as tie
-use Rattle.front.proofs.front_answer.Reads as reads
-use Rattle.front.proofs.front_answer.Lts as lts
-use Rattle.front.proofs.blank_front.Reads as blank-front-reads
 
 -- src/lib.rt:204:13
 blank-front-requires : tie.Need-blank-front-requires

@@ -1,7 +1,7 @@
 -- What stands behind each opening of an item.
 use Prim.Native.Nat.{ℕ, zero, suc, _-_, _^_, _<_, _≤_}
-use mathlib.Core.Path.{_≡_, refl, sym, subst, _∙_, ap}
-use mathlib.Core.List.{List, [], _∷_, _++_, map}
+use mathlib.Core.Path.{_≡_, refl, sym}
+use mathlib.Core.List.{List, [], _∷_, _++_}
 use mathlib.Core.Bool.{Bool, true, false, not}
 use lib.Dec.{eqb, leb}
 use lib.ListN.{length}
@@ -12,8 +12,7 @@ use Rattle.text.specs.Piece.{Piece, gap, byte1, Typed, step, bytes, spell, verb
 use Rattle.text.specs.Read.{misfit, skip, readText, readGap, readIf}
 use Rattle.text.specs.Names.{isLetter, isName, run, readRun, readName}
 use Rattle.text.specs.Numbers.{isDigit, digits, number}
-use Rattle.text.specs.Arrays.{slots}
-use Rattle.text.specs.Laws.Base.{Laws, Head, Any, inline, true-false, and-1, and-2, and-i, and-l, and-r, then-got, guard-got, head-not, not-space}
+use Rattle.text.specs.Laws.Base.{Laws, Head, Any, inline, true-false, and-1, and-l, and-r, then-got, guard-got, head-not, not-space}
 use Rattle.text.specs.Laws.Combine.{seq-laws, bind-laws, gap-laws, Gap, before-laws, made-laws, if-laws, loosen, restart, nothing-laws}
 use Rattle.text.specs.Laws.Numbers.{number-laws, digits-laws}
 use Rattle.text.specs.Laws.Names.{table-laws, name-laws, good, wordOn, wordNext, on-misfit, run-laws, name-inner}
@@ -21,7 +20,7 @@ use Rattle.text.specs.Laws.Many.{Every, every-at, many-laws}
 use Rattle.runway.specs.Runway.{isSide, runwayPieces}
 use Rattle.runway.specs.Laws.Runway.{runway-laws}
 use Rattle.items.specs.declared.Item.{Item}
-use Rattle.items.specs.Item.{isTaxiway, nameAtFront, letterI, letterJ, letterM, letterN, letterP, letterR}
+use Rattle.items.specs.Item.{isTaxiway, nameAtFront, letterI, letterJ, letterM, letterP, letterR}
 use Rattle.items.specs.ItemText.{taxiwaysOf, edgeName}
 use Rattle.items.specs.ReadItem.{openings, sayings, saying, taxiSayings, taxiSaying, edges, readLength, readBank, readNeither, readDetail, runwayItem, bareItem, taxiItem, apronItem, readTaxiway, readTaxiways, isApron, readApron, readRunwayForm, readTaxiForm, readApronForm, readBareForm, readForm}
 use Rattle.items.specs.Laws.Slots.{Taxiway, name-there, taxiways-there}

@@ -1,25 +1,25 @@
 -- An item is read exactly if it is valid and its text is typed.
 use Prim.Native.Nat.{ℕ, zero, suc, _^_, _<_, _≤_}
 use mathlib.Core.Path.{_≡_, refl, sym, subst, _∙_, ap}
-use mathlib.Core.List.{List, [], _∷_, _++_, map, append-assoc}
+use mathlib.Core.List.{List, [], _∷_, _++_, append-assoc}
 use mathlib.Core.Bool.{Bool, true, false, not}
-use lib.Dec.{eqb, leb, lit≤}
+use lib.Dec.{eqb, leb}
 use lib.ListN.{length, drop, replicate, length-map}
-use borrow.Author.Tests.{eqb-true, eqb-false, ne-eqb, leb-true, le-leb, not-true}
+use borrow.Author.Tests.{eqb-true, eqb-false, ne-eqb, leb-true, le-leb}
 use native.Mathlib.Omega.{arith}
 use Rattle.text.specs.Choice.{pick, _and_, all, isEmpty, member, headIs}
 use Rattle.text.specs.Piece.{Piece, bytes, spell}
-use Rattle.text.specs.Names.{isLetter, isName, run, past}
+use Rattle.text.specs.Names.{isLetter, isName, run}
 use Rattle.text.specs.Arrays.{pad, isZero, slots, pastSlots, flat}
 use Rattle.text.specs.Laws.Base.{Laws, Head, Any, inline, true-false, and-1, and-2, and-i, below, below-at}
 use Rattle.text.specs.Laws.Combine.{bind-laws, before-laws, made-laws, if-laws, loosen, relay, revalid}
 use Rattle.text.specs.Laws.Names.{table-laws, good}
-use Rattle.text.specs.Laws.Many.{Every, every-at}
+use Rattle.text.specs.Laws.Many.{every-at}
 use Rattle.text.specs.Laws.Sizes.{run-size}
 use Rattle.text.specs.Laws.Arrays.{zeros-replicate, slots-back, slots-length}
 use Rattle.runway.specs.Runway.{validRunway}
 use Rattle.items.specs.declared.Item.{Item}
-use Rattle.items.specs.Item.{letters, letterI, letterJ, letterM, letterN, letterP, letterR, onRunway, onTaxiways, nameAtFront, behindName, validSlot, runwayFits, amountFits, edgeFits, countFits, slotsFit, taxiwaysFit, nameFits, numbersFit, validItem}
+use Rattle.items.specs.Item.{letters, letterI, letterJ, letterM, letterN, letterP, letterR, onRunway, onTaxiways, nameAtFront, validSlot, runwayFits, amountFits, edgeFits, countFits, slotsFit, taxiwaysFit, nameFits, numbersFit, validItem}
 use Rattle.items.specs.ItemText.{taxiwaysOf, isNamed, itemText, itemPieces}
 use Rattle.items.specs.ReadItem.{openings, openingName, sayings, taxiSayings, edges, bareItem, readBody, readItem}
 use Rattle.items.specs.Laws.Slots.{zero-of, name-back, name-named, slots-names, slots-pads}

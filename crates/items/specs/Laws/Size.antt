@@ -7,7 +7,7 @@ use lib.Dec.{eqb, lit≤}
 use lib.ListN.{length, length-map}
 use borrow.Author.Tests.{eqb-true, leb-true}
 use native.Mathlib.Omega.{arith}
-use Rattle.text.specs.Choice.{pick, _and_, all}
+use Rattle.text.specs.Choice.{_and_, all}
 use Rattle.text.specs.Piece.{gap, loose, bytes, words, spell, verbatim, layAll}
 use Rattle.text.specs.Names.{isName}
 use Rattle.text.specs.Numbers.{digits, number}

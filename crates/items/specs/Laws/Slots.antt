@@ -1,16 +1,15 @@
 -- Names in arrays with zeros behind them: there and back.
-use Prim.Native.Nat.{ℕ, zero, suc, _-_, _≤_}
-use mathlib.Core.Path.{_≡_, refl, sym, subst, _∙_, ap}
+use Prim.Native.Nat.{ℕ, zero, suc, _-_}
+use mathlib.Core.Path.{_≡_, refl, sym, _∙_, ap}
 use mathlib.Core.List.{List, [], _∷_, _++_, map}
 use mathlib.Core.Bool.{Bool, true, false}
-use lib.Dec.{eqb}
 use lib.ListN.{length, replicate, length-map}
 use borrow.Author.Tests.{eqb-true, eq-eqb, leb-true, le-leb}
 use native.Mathlib.Omega.{arith}
-use Rattle.text.specs.Choice.{pick, _and_, all, headIs}
+use Rattle.text.specs.Choice.{pick, all, headIs}
 use Rattle.text.specs.Names.{isLetter, isName, run, past}
 use Rattle.text.specs.Arrays.{pad, isZero, slots, flat}
-use Rattle.text.specs.Laws.Base.{and-1, and-2, and-i, true-false}
+use Rattle.text.specs.Laws.Base.{and-1, and-2, and-i}
 use Rattle.text.specs.Laws.Many.{Every}
 use Rattle.text.specs.Laws.Sizes.{run-size}
 use Rattle.text.specs.Laws.Arrays.{pad-split, pad-length, slots-flat, wide}

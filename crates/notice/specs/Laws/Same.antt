@@ -1,6 +1,6 @@
 -- Records compared part by part, and what the sameness check may say.
 use Prim.Native.Nat.{ℕ}
-use mathlib.Core.Path.{_≡_, refl, sym, _∙_, ap}
+use mathlib.Core.Path.{_≡_, sym, _∙_, ap}
 use mathlib.Core.List.{List}
 use mathlib.Core.Bool.{Bool, true, false}
 use Rattle.text.specs.Laws.Base.{and-1, and-2, and-i, true-false}

@@ -1,15 +1,15 @@
 -- A runway's text is read as that runway and as no other.
 use Prim.Native.Nat.{ℕ, zero, suc, _^_, _<_, _≤_}
-use mathlib.Core.Path.{_≡_, refl, sym, _∙_, ap}
+use mathlib.Core.Path.{_≡_, refl}
 use mathlib.Core.List.{List, [], _∷_}
 use mathlib.Core.Bool.{Bool, true, false, _||_}
 use lib.Dec.{eqb, lit≤}
-use lib.ListN.{length, drop}
+use lib.ListN.{length}
 use borrow.Author.Tests.{eqb-true}
 use native.Mathlib.Omega.{arith}
 use Rattle.text.specs.Choice.{pick, headIs, _and_}
 use Rattle.text.specs.Piece.{byte, spell}
-use Rattle.text.specs.Read.{Got, misfit, got, readAs, maybeByte}
+use Rattle.text.specs.Read.{Got, readAs, maybeByte}
 use Rattle.text.specs.Numbers.{isDigit}
 use Rattle.text.specs.Laws.Base.{Laws, Head, Any, inner}
 use Rattle.text.specs.Laws.Held.{Told, told-one}

@@ -1,15 +1,12 @@
-use Prim.Native.Nat.{ℕ, _≤_, _-_}
+use Prim.Native.Nat.{ℕ, _≤_}
 use mathlib.Core.List.{List}
 use native.Mathlib.Omega.{arith}
 use borrow.Author.Needs.{needs}
 use mathlib.Core.Path.{_≡_, sym, _∙_, ap}
 use Rattle.text.specs.Names.{inClass, readCount}
 use Rattle.text.proofs.Steps.{count-stop, count-on, count-off, count-none}
-use Prim.Native.Nat.{_≤_}
 use lib.ListN.{length, drop}
 use Rattle.text.specs.Held.{fits}
-use Rattle.text.specs.Names.{readCount, inClass}
-use mathlib.Core.Path.{_≡_}
 use Rattle.text.proofs.counted.Statement.{statement}
 use Rattle.text.proofs.counted.Tie as tie
 

@@ -3,8 +3,6 @@ use lib.ListN.{drop-of-length-le}
 use borrow.Author.Needs.{needs}
 use Rattle.text.proofs.feeds.Statement.{statement}
 use Rattle.text.proofs.feeds.Tie as tie
-use Rattle.text.proofs.feeds.Reads as reads
-use Rattle.text.proofs.feeds.Lts as lts
 
 -- src/lib.rt:227:16
 shared-slice-read-result : tie.Need-shared-slice-read-result

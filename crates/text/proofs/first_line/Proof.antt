@@ -8,10 +8,6 @@ use lib.ListN.{length}
 use Prim.Native.Nat.{_-_}
 use Rattle.text.proofs.first_line.Statement.{statement}
 use Rattle.text.proofs.first_line.Tie as tie
-use Rattle.text.proofs.first_line.Reads as reads
-use Rattle.text.proofs.first_line.Lts as lts
-use Rattle.text.proofs.end_at.Reads as end-at-reads
-use Rattle.text.proofs.is_quiet.Reads as is-quiet-reads
 
 abbrev Inv-loop : tie.InvT-loop
 Inv-loop m i₀ i = Passes i m

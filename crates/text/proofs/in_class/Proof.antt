@@ -3,11 +3,6 @@ use Rattle.text.specs.Names.{inClass}
 use borrow.Author.Needs.{needs}
 use Rattle.text.proofs.in_class.Statement.{statement}
 use Rattle.text.proofs.in_class.Tie as tie
-use Rattle.text.proofs.in_class.Reads as reads
-use Rattle.text.proofs.in_class.Lts as lts
-use Rattle.text.proofs.is_letter.Reads as is-letter-reads
-use Rattle.text.proofs.is_name.Reads as is-name-reads
-use Rattle.text.proofs.is_plain.Reads as is-plain-reads
 
 -- src/lib.rt:194:9
 is-letter-requires : tie.Need-is-letter-requires

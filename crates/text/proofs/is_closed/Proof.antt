@@ -3,8 +3,6 @@ use Rattle.text.proofs.Steps.{closed-last, closed-none}
 use borrow.Author.Needs.{needs}
 use Rattle.text.proofs.is_closed.Statement.{statement}
 use Rattle.text.proofs.is_closed.Tie as tie
-use Rattle.text.proofs.is_closed.Reads as reads
-use Rattle.text.proofs.is_closed.Lts as lts
 
 -- src/lib.rt:273:9
 returns : tie.Need-returns

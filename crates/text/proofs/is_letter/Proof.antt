@@ -1,8 +1,6 @@
 use Rattle.text.specs.Laws.Tests.{tests}
 use Rattle.text.proofs.is_letter.Statement.{statement}
 use Rattle.text.proofs.is_letter.Tie as tie
-use Rattle.text.proofs.is_letter.Reads as reads
-use Rattle.text.proofs.is_letter.Lts as lts
 
 -- src/lib.rt:140:9
 returns : tie.Need-returns

@@ -2,8 +2,6 @@ use Rattle.text.specs.Laws.Tests.{tests}
 use Rattle.text.specs.Names.{isMark}
 use Rattle.text.proofs.is_mark.Statement.{statement}
 use Rattle.text.proofs.is_mark.Tie as tie
-use Rattle.text.proofs.is_mark.Reads as reads
-use Rattle.text.proofs.is_mark.Lts as lts
 
 -- src/lib.rt:161:9
 returns : tie.Need-returns

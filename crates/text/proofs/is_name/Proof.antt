@@ -3,9 +3,6 @@ use Rattle.text.specs.Laws.Tests.{tests}
 use borrow.Author.Needs.{needs}
 use Rattle.text.proofs.is_name.Statement.{statement}
 use Rattle.text.proofs.is_name.Tie as tie
-use Rattle.text.proofs.is_name.Reads as reads
-use Rattle.text.proofs.is_name.Lts as lts
-use Rattle.text.proofs.is_letter.Reads as is-letter-reads
 
 -- src/lib.rt:150:13
 returns : tie.Need-returns

@@ -2,10 +2,6 @@ use Rattle.text.specs.Laws.Tests.{tests}
 use borrow.Author.Needs.{needs}
 use Rattle.text.proofs.is_plain.Statement.{statement}
 use Rattle.text.proofs.is_plain.Tie as tie
-use Rattle.text.proofs.is_plain.Reads as reads
-use Rattle.text.proofs.is_plain.Lts as lts
-use Rattle.text.proofs.is_mark.Reads as is-mark-reads
-use Rattle.text.proofs.is_name.Reads as is-name-reads
 
 -- src/lib.rt:184:8
 is-name-requires : tie.Need-is-name-requires

@@ -6,16 +6,12 @@ use Rattle.text.proofs.Steps.{passes-more}
 use Rattle.text.specs.Laws.Base.{true-false}
 use borrow.Author.Needs.{needs}
 use Prim.Native.Nat.{_-_, _≤_}
-use lib.ListN.{length, drop}
+use lib.ListN.{drop}
 use Rattle.text.specs.Held.{Passes}
-use Prim.Native.Nat.{_≤_, _-_}
 use mathlib.Core.Path.{_≡_}
 use mathlib.Core.Bool.{true}
-use lib.ListN.{drop}
 use Rattle.text.proofs.is_quiet.Statement.{statement}
 use Rattle.text.proofs.is_quiet.Tie as tie
-use Rattle.text.proofs.is_quiet.Reads as reads
-use Rattle.text.proofs.is_quiet.Lts as lts
 
 abbrev Inv-loop : tie.InvT-loop
 Inv-loop m i k₀ quiet₀ k quiet = (k ≤ 16) × (quiet ≡ true → Passes k (drop i m))

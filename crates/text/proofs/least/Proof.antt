@@ -1,8 +1,6 @@
 use Rattle.text.specs.Laws.Tests.{tests}
 use Rattle.text.proofs.least.Statement.{statement}
 use Rattle.text.proofs.least.Tie as tie
-use Rattle.text.proofs.least.Reads as reads
-use Rattle.text.proofs.least.Lts as lts
 
 -- src/lib.rt:377:1
 returns : tie.Need-returns

@@ -4,8 +4,6 @@ use Rattle.text.specs.Names.{inClass, past}
 use Rattle.text.proofs.Steps.{past-stop, past-on, past-off}
 use Prim.Native.Nat.{_≤_, _-_}
 use lib.ListN.{length, drop}
-use Rattle.text.specs.Names.{past, inClass}
-use mathlib.Core.Path.{_≡_}
 use Rattle.text.proofs.run.Statement.{statement}
 use Rattle.text.proofs.run.Tie as tie
 

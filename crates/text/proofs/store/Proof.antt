@@ -6,14 +6,10 @@ use Rattle.text.proofs.Steps.{least-within, put-all, put-on}
 use borrow.Author.Needs.{needs}
 use Prim.Native.Nat.{_-_, _≤_}
 use lib.Seq.{sets}
-use Prim.Native.Nat.{_≤_, _-_}
 use lib.ListN.{length, take}
 use mathlib.Core.Path.{_≡_}
 use Rattle.text.proofs.store.Statement.{statement}
 use Rattle.text.proofs.store.Tie as tie
-use Rattle.text.proofs.store.Reads as reads
-use Rattle.text.proofs.store.Lts as lts
-use Rattle.text.proofs.least.Reads as least-reads
 
 abbrev Inv-loop : tie.InvT-loop
 Inv-loop out₀ at t n i₀ out i = (i ≤ n) × (length out ≡ length out₀) × (out ≡ sets out₀ at (take i t))

@@ -1,14 +1,11 @@
 use native.Mathlib.Omega.{arith}
 use borrow.Author.Needs.{needs}
-use Prim.Native.Nat.{ℕ, _≤_, _-_, _+_}
-use mathlib.Core.Path.{_≡_, refl, sym, _∙_, ap}
+use Prim.Native.Nat.{ℕ, _≤_}
+use mathlib.Core.Path.{_≡_, sym, _∙_, ap}
 use lib.ListN.{length, length-set}
 use lib.Seq.{sets}
 use Rattle.text.proofs.Steps.{no-places, digit-on, digit-past}
 use Rattle.text.specs.Laws.Put.{sets-out}
-use Prim.Native.Nat.{_≤_}
-use lib.ListN.{length}
-use mathlib.Core.Path.{_≡_}
 use Rattle.text.specs.Piece.{canonical}
 use Rattle.text.specs.Numbers.{digits}
 use Rattle.text.proofs.store_digits.Statement.{statement}

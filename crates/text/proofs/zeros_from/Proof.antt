@@ -9,14 +9,10 @@ use Rattle.text.specs.Laws.Tests.{tests}
 use lib.ListN.{length, drop}
 use Rattle.text.specs.Choice.{_and_, all}
 use Prim.Native.Nat.{_-_}
-use Rattle.text.specs.Choice.{all, _and_}
 use Rattle.text.specs.Arrays.{isZero}
-use lib.ListN.{drop, length}
 use mathlib.Core.Path.{_≡_}
 use Rattle.text.proofs.zeros_from.Statement.{statement}
 use Rattle.text.proofs.zeros_from.Tie as tie
-use Rattle.text.proofs.zeros_from.Reads as reads
-use Rattle.text.proofs.zeros_from.Lts as lts
 
 abbrev Inv-loop : tie.InvT-loop
 Inv-loop s i j₀ zeros₀ j zeros = all isZero (drop i s) ≡ (zeros and all isZero (drop j s))
