@@ -9,6 +9,7 @@ use Rattle.text.specs.Read.{Got, misfit, got}
 use Rattle.text.specs.Arrays.{pad}
 use Rattle.items.specs.Awareness.{mostItems, blankItem}
 use Rattle.items.specs.declared.Item.{Item}
+use Rattle.awareness.specs.declared.DetailFound.{DetailFound}
 use Rattle.awareness.specs.declared.ItemFound.{ItemFound}
 use Rattle.awareness.specs.declared.ItemsRead.{ItemsRead}
 
@@ -16,6 +17,14 @@ use Rattle.awareness.specs.declared.ItemsRead.{ItemsRead}
 pub record Reads {A : Type 0} (m : List ℕ) (g : Got A) (fits : Bool) (v : A) (next : ℕ) : Type 0 where
   pub within : next ≤ length m
   pub says : g ≡ pick fits (got v (drop next m)) misfit
+
+abbrev pub noDetail : DetailFound
+noDetail = record { fits = false; edge = 0; amount = 0; next = 0 }
+
+-- the answer r is the reading g of what a runway's item says besides its letter; a misfit is all zero
+pub record HeldDetail (m : List ℕ) (g : Got (ℕ × ℕ)) (r : DetailFound) : Type 0 where
+  pub reads : Reads m g (r .fits) (r .edge, r .amount) (r .next)
+  pub blank : r ≡ pick (r .fits) r noDetail
 
 abbrev pub noItem : ItemFound
 noItem = record { fits = false; item = blankItem; next = 0 }

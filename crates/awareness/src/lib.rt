@@ -15,7 +15,7 @@ ghost use Rattle.items.specs.Awareness.{wholeAwareness};
 ghost use Rattle.items.specs.Item.{isTaxiway};
 ghost use Rattle.items.specs.ItemText.{edgeName};
 ghost use Rattle.items.specs.ReadItem.{openings, openingName, sayings, saying, taxiSayings, taxiSaying, edges, readLength, readBank, readDetail, readRunwayForm, runwayItem, readTaxiway, readSomeTaxiways, readTaxiForm, isApron, readApron, apronItem, readApronForm, readForm, readBody, readItem};
-ghost use Rattle.awareness.specs.Held.{Reads, HeldItem, noItem, itemsAnswer};
+ghost use Rattle.awareness.specs.Held.{Reads, HeldDetail, HeldItem, noItem, itemsAnswer};
 ghost use Rattle.awareness.specs.Named.{inSlots, bareFound};
 use items::Item;
 use items::blank_item;
@@ -184,7 +184,7 @@ fn number(s: &[u8], i: usize) -> Found
 }
 
 fn length_detail(s: &[u8], i: usize) -> DetailFound
-    ensures { λ r. ⌜ Reads (now (s .entry)) (readLength (drop i (now (s .entry)))) (r .fits) (r .edge, r .amount) (r .next) ⌝ }
+    ensures { λ r. ⌜ HeldDetail (now (s .entry)) (readLength (drop i (now (s .entry)))) r ⌝ }
 {
     let g = word(s, i, b" ", 0);
     if !g.fits {
@@ -203,7 +203,7 @@ fn length_detail(s: &[u8], i: usize) -> DetailFound
 }
 
 fn bank_detail(s: &[u8], i: usize) -> DetailFound
-    ensures { λ r. ⌜ Reads (now (s .entry)) (readBank (drop i (now (s .entry)))) (r .fits) (r .edge, r .amount) (r .next) ⌝ }
+    ensures { λ r. ⌜ HeldDetail (now (s .entry)) (readBank (drop i (now (s .entry)))) r ⌝ }
 {
     let g = word(s, i, b" ", 0);
     if !g.fits {
@@ -231,7 +231,7 @@ fn bank_detail(s: &[u8], i: usize) -> DetailFound
 
 fn detail(letter: u32, s: &[u8], i: usize) -> DetailFound
     requires { ⌜ i ≤ length (now s) ⌝ }
-    ensures { λ r. ⌜ Reads (now (s .entry)) (readDetail letter (drop i (now (s .entry)))) (r .fits) (r .edge, r .amount) (r .next) ⌝ }
+    ensures { λ r. ⌜ HeldDetail (now (s .entry)) (readDetail letter (drop i (now (s .entry)))) r ⌝ }
 {
     if letter == b'I' as u32 {
         return length_detail(s, i);

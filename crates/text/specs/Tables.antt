@@ -3,7 +3,8 @@ use Prim.Native.Nat.{ℕ, zero, suc}
 use mathlib.Core.Path.{_≡_, refl}
 use mathlib.Core.List.{List, [], _∷_, map}
 use mathlib.Core.Bool.{Bool, true, false}
-use Rattle.text.specs.Choice.{pick}
+use Rattle.text.specs.Held.{isSpace, isAboveReturn, startsWith}
+use Rattle.text.specs.Choice.{pick, _and_}
 use Rattle.text.specs.Piece.{byte, gap, loose, end, last, nrGroups, bytes, spell, words, verbatim, canonical, nrText}
 use Rattle.text.specs.Read.{misfit, got, skip, readText, readGap, readLoose, readMany, whole}
 use Rattle.text.specs.Numbers.{isDigit, readDigits, digits, number, readNumber}
@@ -116,3 +117,14 @@ pub record Held : Type 0 where
 pub held : Held
 unfolding slots pastSlots flat told
 held = record { padded = refl; slotted = (refl, refl); flattened = refl; far = (refl, refl, refl) }
+
+-- blocks of bytes that are looked at together
+pub record Blocks : Type 0 where
+  pub spaces : map isSpace (31 ∷ 32 ∷ 33 ∷ []) ≡ false ∷ true ∷ false ∷ []
+  pub above : map isAboveReturn (10 ∷ 12 ∷ 13 ∷ 14 ∷ 255 ∷ []) ≡ false ∷ false ∷ false ∷ true ∷ true ∷ []
+  pub starting : map (λ n. startsWith n isSpace (bytes "  A ")) (0 ∷ 1 ∷ 2 ∷ 3 ∷ 4 ∷ []) ≡ true ∷ true ∷ true ∷ false ∷ false ∷ []
+  pub whole : map (λ n. startsWith n isAboveReturn (bytes "AB")) (2 ∷ 3 ∷ []) ≡ true ∷ false ∷ []
+
+pub blocks : Blocks
+unfolding _and_ startsWith
+blocks = record { spaces = refl; above = refl; starting = refl; whole = refl }

@@ -1,3 +1,4 @@
+use mathlib.Core.Path.{refl}
 use borrow.Author.Tests.{eq-eqb, ne-eqb}
 use Rattle.items.specs.Item.{letterI, letterM}
 use Rattle.items.specs.ReadItem.{readDetail, readNeither}
@@ -27,7 +28,7 @@ returns-2 c = rw (ne-eqb (c .before .before .before .before .args .letter) lette
 
 returns-3 : tie.Need-returns-3
 unfolding readDetail readNeither
-returns-3 c = record { within = c .before .before .before .pre; says = rw (ne-eqb (c .before .before .before .args .letter) letterI (c .before .if1 .left), ne-eqb (c .before .before .before .args .letter) letterM (c .if2 .left)) }
+returns-3 c = record { reads = record { within = c .before .before .before .pre; says = rw (ne-eqb (c .before .before .before .args .letter) letterI (c .before .if1 .left), ne-eqb (c .before .before .before .args .letter) letterM (c .if2 .left)) }; blank = refl }
 
 pub detail-spec : {M : Type 1} → statement M
 detail-spec =

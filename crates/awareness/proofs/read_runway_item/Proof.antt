@@ -51,7 +51,7 @@ no-item-requires-4 c κs = search needs
 
 returns-4 : tie.Need-returns-4
 unfolding readRunwayForm
-returns-4 c = let m = drop (c .before .before .before .before .before .before .before .before .before .before .before .before .before .before .before .args .i) (c .before .before .before .before .before .before .before .before .before .before .before .before .before .before .before .args .s .now) in unread (c .no-item4 .ensures) (rw (text-there (32 ∷ []) m 0 (c .before .before .before .before .before .before .before .before .before .before .before .before .word .ensures) (not-false _ (c .before .before .before .before .before .before .before .before .before .before .if1 .left)), runway-there (c .before .before .before .before .before .before .before .before .before .read-runway .ensures) (not-false _ (c .before .before .before .before .before .before .before .if2 .left)), got-of (c .before .before .before .before .before .before .saying .ensures) (not-false _ (c .before .before .before .before .if3 .left)), read-off (c .before .before .before .detail .ensures) (not-true _ (c .before .if4 .taken))))
+returns-4 c = let m = drop (c .before .before .before .before .before .before .before .before .before .before .before .before .before .before .before .args .i) (c .before .before .before .before .before .before .before .before .before .before .before .before .before .before .before .args .s .now) in unread (c .no-item4 .ensures) (rw (text-there (32 ∷ []) m 0 (c .before .before .before .before .before .before .before .before .before .before .before .before .word .ensures) (not-false _ (c .before .before .before .before .before .before .before .before .before .before .if1 .left)), runway-there (c .before .before .before .before .before .before .before .before .before .read-runway .ensures) (not-false _ (c .before .before .before .before .before .before .before .if2 .left)), got-of (c .before .before .before .before .before .before .saying .ensures) (not-false _ (c .before .before .before .before .if3 .left)), read-off (c .before .before .before .detail .ensures .reads) (not-true _ (c .before .if4 .taken))))
 
 cast-runway-item : tie.Need-cast-runway-item
 cast-runway-item c = omega (arith, saying-low (drop (c .before .before .before .before .before .before .before .before .before .read-runway .result .next) (c .before .before .before .before .before .before .before .before .before .before .before .before .before .before .before .args .s .now)) (got-of (c .before .before .before .before .before .before .saying .ensures) (not-false _ (c .before .before .before .before .if3 .left))))
@@ -61,7 +61,7 @@ runway-item-requires c κs = search needs
 
 returns-5 : tie.Need-returns-5
 unfolding readRunwayForm
-returns-5 c = let m = drop (c .before .before .before .before .before .before .before .before .before .before .before .before .before .before .before .before .args .i) (c .before .before .before .before .before .before .before .before .before .before .before .before .before .before .before .before .args .s .now) in record { within = c .before .before .before .before .detail .ensures .within; says = rw (text-there (32 ∷ []) m 0 (c .before .before .before .before .before .before .before .before .before .before .before .before .before .word .ensures) (not-false _ (c .before .before .before .before .before .before .before .before .before .before .before .if1 .left)), runway-there (c .before .before .before .before .before .before .before .before .before .before .read-runway .ensures) (not-false _ (c .before .before .before .before .before .before .before .before .if2 .left)), got-of (c .before .before .before .before .before .before .before .saying .ensures) (not-false _ (c .before .before .before .before .before .if3 .left)), read-got (c .before .before .before .before .detail .ensures) (not-false _ (c .before .before .if4 .left)), c .runway-item .ensures); blank = refl }
+returns-5 c = let m = drop (c .before .before .before .before .before .before .before .before .before .before .before .before .before .before .before .before .args .i) (c .before .before .before .before .before .before .before .before .before .before .before .before .before .before .before .before .args .s .now) in record { within = c .before .before .before .before .detail .ensures .reads .within; says = rw (text-there (32 ∷ []) m 0 (c .before .before .before .before .before .before .before .before .before .before .before .before .before .word .ensures) (not-false _ (c .before .before .before .before .before .before .before .before .before .before .before .if1 .left)), runway-there (c .before .before .before .before .before .before .before .before .before .before .read-runway .ensures) (not-false _ (c .before .before .before .before .before .before .before .before .if2 .left)), got-of (c .before .before .before .before .before .before .before .saying .ensures) (not-false _ (c .before .before .before .before .before .if3 .left)), read-got (c .before .before .before .before .detail .ensures .reads) (not-false _ (c .before .before .if4 .left)), c .runway-item .ensures); blank = refl }
 
 pub read-runway-item-spec : {M : Type 1} → statement M
 read-runway-item-spec =

@@ -35,10 +35,10 @@ add-j : tie.Need-add-j Inv-loop μ-loop Inv-loop2 μ-loop2
 add-j c = search needs
 
 loop-less : tie.Need-loop-less Inv-loop μ-loop Inv-loop2 μ-loop2
-loop-less c = let q = c .before in let l = q .before .loop in let a = q .before .before .before .before .args in let g = skips-on (a .s .now) (a .i) (l .j) (l .inv .0) (l .inv .1) (q .is-gap .ensures (c .if1 .taken)) in omega (arith, g .0)
+loop-less c = let q = c .before in let l = q .before .loop in let a = q .before .before .before .before .args in let g = skips-on (a .s .now) (a .i) (l .j) 16 (l .inv .0) (l .inv .1) (sym (q .is-gap .ensures) ∙ c .if1 .taken) in omega (arith, g .0)
 
 loop-again : tie.Need-loop-again Inv-loop μ-loop Inv-loop2 μ-loop2
-loop-again c = let q = c .before in let l = q .before .loop in let a = q .before .before .before .before .args in skips-on (a .s .now) (a .i) (l .j) (l .inv .0) (l .inv .1) (q .is-gap .ensures (c .if1 .taken))
+loop-again c = let q = c .before in let l = q .before .loop in let a = q .before .before .before .before .args in skips-on (a .s .now) (a .i) (l .j) 16 (l .inv .0) (l .inv .1) (sym (q .is-gap .ensures) ∙ c .if1 .taken)
 
 loop2-holds : tie.Need-loop2-holds Inv-loop μ-loop Inv-loop2 μ-loop2
 loop2-holds c = search needs

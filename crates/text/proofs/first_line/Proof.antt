@@ -1,9 +1,8 @@
 use native.Mathlib.Omega.{arith}
 use mathlib.Core.Path.{sym, _∙_}
 use lib.ListN.{drop}
-use Rattle.text.proofs.Steps.{passes-join, passes-one, line-ended, line-stopped, end-short}
+use Rattle.text.proofs.Steps.{Passes, passes-join, passes-on, passes-one, line-ended, line-stopped, end-short}
 use borrow.Author.Needs.{needs}
-use Rattle.text.specs.Held.{Passes}
 use lib.ListN.{length}
 use Prim.Native.Nat.{_-_}
 use Rattle.text.proofs.first_line.Statement.{statement}
@@ -31,10 +30,10 @@ add-i : tie.Need-add-i Inv-loop μ-loop Inv-loop2 μ-loop2
 add-i c = search needs
 
 loop-less : tie.Need-loop-less Inv-loop μ-loop Inv-loop2 μ-loop2
-loop-less c = let q = c .before in let l = q .before .loop in let p = passes-join (l .inv) (q .is-quiet .ensures (c .if1 .taken)) in let w = p .within in omega arith
+loop-less c = let q = c .before in let l = q .before .loop in let p = passes-on (q .before .before .before .args .m .now) (l .i) 16 (l .inv) (sym (q .is-quiet .ensures) ∙ c .if1 .taken) in let w = p .within in omega arith
 
 loop-again : tie.Need-loop-again Inv-loop μ-loop Inv-loop2 μ-loop2
-loop-again c = let q = c .before in passes-join (q .before .loop .inv) (q .is-quiet .ensures (c .if1 .taken))
+loop-again c = let q = c .before in passes-on (q .before .before .before .args .m .now) (q .before .loop .i) 16 (q .before .loop .inv) (sym (q .is-quiet .ensures) ∙ c .if1 .taken)
 
 loop2-holds : tie.Need-loop2-holds Inv-loop μ-loop Inv-loop2 μ-loop2
 loop2-holds c = search needs

@@ -1,35 +1,35 @@
+-- The invariant: whether so much of the block is as it should be.
 use native.Mathlib.Omega.{arith}
-use Prim.Native.Nat.{ℕ}
-use mathlib.Core.Path.{sym, subst, _∙_}
+use Prim.Native.Nat.{_+_, _-_, _≤_}
+use mathlib.Core.Path.{_≡_, refl, sym, _∙_, ap}
 use mathlib.Core.Logic.{⊎-elim}
-use Rattle.text.proofs.Steps.{passes-more}
-use Rattle.text.specs.Laws.Base.{true-false}
+use lib.ListN.{take, drop, getD, length-drop}
+use borrow.Author.Tests.{lt-ltb, le-ltb}
+use Rattle.text.specs.Choice.{_and_, all}
+use Rattle.text.specs.Held.{isAboveReturn}
+use Rattle.text.specs.Laws.Base.{and-none, and-true}
+use Rattle.text.proofs.Steps.{block-more, block-out, block-in}
 use borrow.Author.Needs.{needs}
-use Prim.Native.Nat.{_-_, _≤_}
-use lib.ListN.{drop}
-use Rattle.text.specs.Held.{Passes}
-use mathlib.Core.Path.{_≡_}
-use mathlib.Core.Bool.{true}
 use Rattle.text.proofs.is_quiet.Statement.{statement}
 use Rattle.text.proofs.is_quiet.Tie as tie
 
 abbrev Inv-loop : tie.InvT-loop
-Inv-loop m i k₀ quiet₀ k quiet = (k ≤ 16) × (quiet ≡ true → Passes k (drop i m))
+Inv-loop m i k₀ quiet₀ k quiet = (k ≤ 16) × (quiet ≡ all isAboveReturn (take k (drop i m)))
 
 abbrev μ-loop : tie.MeasureT-loop
 μ-loop m i k₀ quiet₀ k quiet = 16 - k
 
 returns : tie.Need-returns Inv-loop μ-loop
-returns c e = absurd (true-false (sym e))
+returns c = let a = c .before .args in sym (block-out isAboveReturn 16 (drop (a .i) (a .m .now)) (omega (arith, length-drop (a .i) (a .m .now))))
 
 sub-if2 : tie.Need-sub-if2 Inv-loop μ-loop
 sub-if2 c = search needs
 
 returns-2 : tie.Need-returns-2 Inv-loop μ-loop
-returns-2 c e = absurd (true-false (sym e))
+returns-2 c = let a = c .before .before .args in sym (block-out isAboveReturn 16 (drop (a .i) (a .m .now)) (omega (arith, length-drop (a .i) (a .m .now))))
 
 loop-holds : tie.Need-loop-holds Inv-loop μ-loop
-loop-holds c = search needs
+loop-holds c = (search needs, refl)
 
 add-if3 : tie.Need-add-if3 Inv-loop μ-loop
 add-if3 c = search needs
@@ -45,13 +45,19 @@ loop-less c = search needs
 
 loop-again : tie.Need-loop-again Inv-loop μ-loop
 loop-again c =
-    let q = c .before .before .before .before in
     let l = c .before .before .before .loop in
-    let a = q .before .before .args in
-    (search needs, ⊎-elim (λ w e. absurd (true-false (sym e ∙ w .1))) (λ w e. passes-more (a .m .now) (a .i) (l .k) (l .inv .1 (sym (w .1) ∙ e)) (omega arith) (omega arith)) (c .if3 .came))
+    let a = c .before .before .before .before .before .before .args in
+    let b = getD (a .m .now) (a .i + l .k) 0 in
+    let so-far = all isAboveReturn (take (l .k) (drop (a .i) (a .m .now))) in
+    let e = block-more isAboveReturn (a .m .now) (a .i) (l .k) (omega arith) in
+    (search needs, ⊎-elim (λ w. w .1 ∙ sym (e ∙ and-none so-far (le-ltb 13 b (w .0 .taken)))) (λ w. w .1 ∙ l .inv .1 ∙ sym (e ∙ ap (λ t. so-far and t) (lt-ltb 13 b (w .0 .left)) ∙ and-true so-far)) (c .if3 .came))
 
 returns-3 : tie.Need-returns-3 Inv-loop μ-loop
-returns-3 c e = let l = c .before .loop in let z : l .k ≡ 16 = omega arith in subst (λ (k : ℕ). Passes k (drop (c .before .before .before .before .args .i) (c .before .before .before .before .args .m .now))) z (l .inv .1 e)
+returns-3 c =
+    let l = c .before .loop in
+    let a = c .before .before .before .before .args in
+    let z : l .k ≡ 16 = omega arith in
+    l .inv .1 ∙ ap (λ k. all isAboveReturn (take k (drop (a .i) (a .m .now)))) z ∙ sym (block-in isAboveReturn 16 (drop (a .i) (a .m .now)) (omega (arith, length-drop (a .i) (a .m .now))))
 
 pub is-quiet-spec : {M : Type 1} → statement M
 is-quiet-spec =
