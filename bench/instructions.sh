@@ -7,7 +7,8 @@
 # WHAT limits the count to names that begin so, e.g. `fast` or `library-read`. Each is counted for two numbers of rounds;
 # the difference is that of the rounds alone, without the start of the program and the making of its inputs.
 #
-# Callgrind counts on the processor that the program was built for. The library is for x86-64 only; where the machine is
+# Callgrind counts on the processor that the program was built for. It counts an instruction that clears or copies memory
+# byte by byte once for each byte, so the C library is told to do that by vectors. The library is for x86-64 only; where the machine is
 # another one, COUNT=emulator counts by QEMU's emulator of x86-64 programs, and BENCH is a `bench` for x86-64 that stands
 # alone (linked statically). The emulator writes a line for each instruction that it executes. There are some hundred
 # thousand for the start alone, so the rounds are few, and the lines are counted as they come and never stored. The
@@ -18,6 +19,7 @@ bench=${BENCH:-${CARGO_TARGET_DIR:-$(dirname "$0")/target}/release/bench}
 
 case ${COUNT:-callgrind} in
 callgrind)
+    export GLIBC_TUNABLES=glibc.cpu.x86_rep_stosb_threshold=1000000:glibc.cpu.x86_rep_movsb_threshold=1000000
     few=10
     many=60
     answer() { "$bench" "$@"; }
