@@ -18,7 +18,7 @@ use Rattle.items.specs.Item.{letters, letterI, letterJ, letterK, letterL
 use Rattle.items.specs.ItemText.{itemText, itemPieces}
 use Rattle.items.specs.ReadItem.{readLength, readBank, readNeither, readDetail, readTaxiway, readTaxiways, readApron, readRunwayForm, readTaxiForm, readApronForm, readBareForm, readForm, readBody, readItem, bareItem, taxiItem, apronItem, runwayItem}
 use Rattle.items.specs.Awareness.{sameRunway, otherApron, mayRepeat, mayFollow, inOrder, readAwareness, wholeAwareness, awarenessPieces}
-use Rattle.items.specs.Language.{lastIs, validLanguage}
+use Rattle.items.specs.Language.{lastIs, validLanguage, validLanguageArray}
 
 -- the line is taken
 abbrev taken : String → Bool
@@ -133,3 +133,9 @@ plain-edges = (refl, refl, refl, refl, refl, refl, refl, refl, refl, refl)
 plain-lengths : (validLanguage (replicate 399 65 ++ bytes ".") ≡ true) × (validLanguage (replicate 400 65 ++ bytes ".") ≡ false)
 unfolding isMark validLanguage lastIs _and_
 plain-lengths = (refl, refl)
+
+-- the same in a record's array: as long as it is, zeros behind
+plain-held : (validLanguageArray 400 (replicate 399 65 ++ bytes ".") ≡ true) × (validLanguageArray 401 (replicate 399 65 ++ bytes ".") ≡ false)
+    × (validLanguageArray 2 (bytes "A." ++ replicate 398 0) ≡ true) × (validLanguageArray 2 (bytes "A." ++ (replicate 397 0 ++ (1 ∷ []))) ≡ false)
+unfolding isMark validLanguage validLanguageArray lastIs _and_
+plain-held = (refl, refl, refl, refl)

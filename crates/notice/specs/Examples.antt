@@ -101,6 +101,18 @@ pub record Examples : Type 0 where
       ∷ below ("01120640 07R 6/6/6 DRY/DRY/DRY" ∷ "" ∷ "DRIFTING SAND.)" ∷ [])
       ∷ below ("01120640 07R 6/6/6 DRY/DRY/DRY" ∷ "" ∷ "DRIFTING SNOW." ∷ "swept.)" ∷ [])
       ∷ []) ≡ 5 ∷ 7 ∷ 8 ∷ 9 ∷ []
+  -- below the empty line: a line missing, `)` missing, bytes after the end, an awareness line "empty before `)`", and three that are taken
+  remarks : map refusalOf (
+      below ("01120640 07R 6/6/6 DRY/DRY/DRY" ∷ "" ∷ [])
+      ∷ below ("01120640 07R 6/6/6 DRY/DRY/DRY" ∷ "" ∷ "DRIFTING SNOW." ∷ [])
+      ∷ below ("01120640 07R 6/6/6 DRY/DRY/DRY" ∷ "" ∷ "DRIFTING SNOW." ∷ "SWEPT." ∷ [])
+      ∷ below ("01120640 07R 6/6/6 DRY/DRY/DRY" ∷ "" ∷ "DRIFTING SNOW." ∷ "SWEPT.)" ∷ "" ∷ [])
+      ∷ below ("01120640 07R 6/6/6 DRY/DRY/DRY" ∷ "" ∷ "DRIFTING SNOW.)" ∷ "" ∷ [])
+      ∷ below ("01120640 07R 6/6/6 DRY/DRY/DRY" ∷ "" ∷ ")" ∷ [])
+      ∷ below ("01120640 07R 6/6/6 DRY/DRY/DRY" ∷ "" ∷ "" ∷ "SWEPT.)" ∷ [])
+      ∷ below ("01120640 07R 6/6/6 DRY/DRY/DRY" ∷ "" ∷ "DRIFTING SNOW.)" ∷ [])
+      ∷ below ("01120640 07R 6/6/6 DRY/DRY/DRY" ∷ "" ∷ "DRIFTING SNOW." ∷ "SWEPT.)" ∷ [])
+      ∷ []) ≡ 4 ∷ 4 ∷ 4 ∷ 4 ∷ 4 ∷ 8 ∷ 0 ∷ 0 ∷ 0 ∷ []
   -- a ninth row
   ninth : refusalOf (below ("01120640 01 6/6/6 DRY/DRY/DRY" ∷ "01120640 02 6/6/6 DRY/DRY/DRY" ∷ "01120640 03 6/6/6 DRY/DRY/DRY" ∷ "01120640 04 6/6/6 DRY/DRY/DRY" ∷ "01120640 05 6/6/6 DRY/DRY/DRY" ∷ "01120640 06 6/6/6 DRY/DRY/DRY" ∷ "01120640 07 6/6/6 DRY/DRY/DRY" ∷ "01120640 08 6/6/6 DRY/DRY/DRY" ∷ "01120640 09 6/6/6 DRY/DRY/DRY)" ∷ [])) ≡ 6
   -- "serials differ; aerodromes differ; heading time not the latest"
@@ -113,4 +125,4 @@ pub record Examples : Type 0 where
 
 pub examples : Examples
 unfolding slots flat _and_ lines closed front ended run past isMark readCount readName readDigits digits spell skip readText readMany validRunway isShortMonth daysOf realDay realClock realTime later isContaminant isDeep isCoverage validCoverage leastDepth isReported validDepth validThird measurePieces readMeasure readCoverage readDescription thirdPieces readThird highest readGroup readFull readShort readWidth readRow threeThat validRow isBare isSix isDry isShort middlePieces widthPieces rowPieces addressesPieces readAddresses realFiling filingPieces readFiling headingPieces readHeading serialPieces readSerialLine aerodromePieces readAerodrome isLetters sameRunway otherApron mayRepeat mayFollow inOrder awarenessPieces readAwareness wholeAwareness onRunway onTaxiways runwayFits amountFits edgeFits countFits isTaxiway validSlot isNew slotsFit taxiwaysFit nameFits numbersFit validItem itemText itemPieces lastIs validLanguage wholeLanguage readLength readBank readNeither readDetail readTaxiway readTaxiways readApron readRunwayForm readTaxiForm readApronForm readBareForm readForm readBody readItem isAmong newRunways latestOf latestFrom latest readRows noticeLines notice noticeText agreeing readNotice reading Rows.sameRunway
-examples = record { accepted = refl; rows = refl; items = refl; rewritten = refl; missing = refl; blank = refl; body = refl; ninth = refl; differing = refl }
+examples = record { accepted = refl; rows = refl; items = refl; rewritten = refl; missing = refl; blank = refl; body = refl; remarks = refl; ninth = refl; differing = refl }
