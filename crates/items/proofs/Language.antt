@@ -9,28 +9,13 @@ use lib.ListN.{length, getD, replicate}
 use lib.Seq.{sets}
 use borrow.Author.Tests.{le-leb}
 use Rattle.text.specs.Choice.{_and_, all, headIs}
-use Rattle.text.specs.Read.{Got, misfit, got, guard, andThen}
-use Rattle.text.specs.Names.{isPlainByte, readCount}
+use Rattle.text.specs.Read.{misfit}
+use Rattle.text.specs.Names.{isPlainByte}
 use Rattle.text.specs.Held.{fits}
 use Rattle.text.specs.Laws.Put.{over-zeros}
 use Rattle.items.specs.Language.{lastIs, validLanguage, wholeLanguage}
 use Rattle.items.specs.Held.{languageAnswer}
 use Rattle.items.specs.Laws.Language.{language-short}
-
--- as many bytes of a class as there are
-all-counted : (p : ℕ → Bool) (m : List ℕ) → fits (readCount p (length m) m) ≡ all p m
-unfolding readCount _and_
-all-counted p [] = refl
-all-counted p (x ∷ m) = go (p x) (all-counted p m)
-  where
-    again : (g : Got (List ℕ)) → fits (andThen {A = ℕ × List ℕ} (andThen g (λ b r. got (x, b) r)) (λ q r. got (q .0 ∷ q .1) r)) ≡ fits g
-    again misfit = refl
-    again (got b r) = refl
-
-    go : (t : Bool) → fits (readCount p (length m) m) ≡ all p m
-        → fits (andThen {A = ℕ × List ℕ} (andThen (guard t (got x m)) (λ a k. andThen (readCount p (length m) k) (λ b r. got (a, b) r))) (λ q r. got (q .0 ∷ q .1) r)) ≡ (t and all p m)
-    go true h = again (readCount p (length m) m) ∙ h
-    go false h = refl
 
 last-byte : (c : ℕ) (l : List ℕ) → 0 < length l → lastIs c l ≡ eqb (getD l (length l - 1) 0) c
 unfolding lastIs
@@ -46,9 +31,9 @@ first-byte p (x ∷ l) h = refl
 
 -- of 2 to 400 bytes: the tests of the code
 pub language-tests : (l : List ℕ) → 2 ≤ length l → length l ≤ 400
-    → validLanguage l ≡ (fits (readCount isPlainByte (length l) l) and not (eqb 32 (getD l 0 0)) and eqb (getD l (length l - 1) 0) 46)
+    → validLanguage l ≡ (all isPlainByte l and not (eqb 32 (getD l 0 0)) and eqb (getD l (length l - 1) 0) 46)
 unfolding validLanguage _and_
-language-tests l h k = rw (le-leb 2 (length l) h, le-leb (length l) 400 k, all-counted isPlainByte l, first-byte (eqb 32) l (omega arith), last-byte 46 l (omega arith))
+language-tests l h k = rw (le-leb 2 (length l) h, le-leb (length l) 400 k, first-byte (eqb 32) l (omega arith), last-byte 46 l (omega arith))
 
 -- bytes that were put over zeros
 pub language-kept : (l b : List ℕ) → validLanguage l ≡ true → b ≡ sets (replicate 400 0) 0 l → record { fits = true; length = length l; bytes = b } ≡ languageAnswer (wholeLanguage l)

@@ -15,7 +15,7 @@ ghost use Rattle.items.specs.Held.{SlotEnd, languageAnswer};
 use runway::valid_runway;
 use text::CAPITALS_AND_DIGITS;
 use text::LETTERS;
-use text::PLAIN_LANGUAGE;
+use text::all_plain;
 use text::counted;
 use text::put;
 use text::run;
@@ -477,7 +477,7 @@ pub fn valid_language(part: &[u8]) -> bool
     if MOST_LANGUAGE < n {
         return false;
     }
-    if counted(part, 0, PLAIN_LANGUAGE, n) {
+    if all_plain(part) {
         if part[0] == b' ' {
             return false;
         }

@@ -27,11 +27,10 @@ pub record Classes : Type 0 where
   pub language : classBelow 256 isPlainByte ≡ bytes "ZYXWVUTSRQPONMLKJIHGFEDCBA:9876543210/.-,+ "
   pub zeroth : classBelow 256 (inClass 0) ≡ classBelow 256 isLetter
   pub first : classBelow 256 (inClass 1) ≡ classBelow 256 isName
-  pub second : classBelow 256 (inClass 2) ≡ classBelow 256 isPlainByte
 
 pub classes : Classes
 unfolding classBelow isMark inClass
-classes = record { digit = refl; letter = refl; name = refl; language = refl; zeroth = refl; first = refl; second = refl }
+classes = record { digit = refl; letter = refl; name = refl; language = refl; zeroth = refl; first = refl }
 
 -- what the writer gives for each piece
 pub record Canonical : Type 0 where

@@ -2,7 +2,6 @@ use mathlib.Core.Path.{sym, _∙_}
 use lib.ListN.{length, getD}
 use borrow.Author.Tests.{le-leb, lt-leb, eq-eqb, ne-eqb}
 use Rattle.text.specs.Choice.{_and_}
-use Rattle.text.specs.Names.{inClass}
 use Rattle.text.specs.Laws.Tests.{and-on, and-off}
 use Rattle.items.specs.Language.{validLanguage}
 use Rattle.items.proofs.Language.{language-tests}
@@ -18,15 +17,15 @@ returns-2 : tie.Need-returns-2
 unfolding validLanguage
 returns-2 c = let n = length (c .before .before .before .args .part .now) in and-on _ _ _ (le-leb 2 n (c .before .if1 .left)) (and-off _ _ (lt-leb n 400 (c .if2 .taken)))
 
-counted-requires : tie.Need-counted-requires
-counted-requires c κs = search needs
+all-plain-requires : tie.Need-all-plain-requires
+all-plain-requires c κs = search needs
 
 shared-slice-read-if4 : tie.Need-shared-slice-read-if4
 shared-slice-read-if4 c = search needs
 
 returns-3 : tie.Need-returns-3
-unfolding inClass _and_
-returns-3 c = let l = c .before .before .before .before .before .before .before .args .part .now in sym (language-tests l (c .before .before .before .before .before .if1 .left) (c .before .before .before .before .if2 .left) ∙ rw (sym (c .before .before .before .counted .ensures) ∙ c .before .before .if3 .taken, eq-eqb 32 (getD l 0 0) (sym (c .if4 .taken))))
+unfolding _and_
+returns-3 c = let l = c .before .before .before .before .before .before .before .args .part .now in sym (language-tests l (c .before .before .before .before .before .if1 .left) (c .before .before .before .before .if2 .left) ∙ rw (sym (c .before .before .before .all-plain .ensures) ∙ c .before .before .if3 .taken, eq-eqb 32 (getD l 0 0) (sym (c .if4 .taken))))
 
 sub-result : tie.Need-sub-result
 sub-result c = search needs
@@ -35,12 +34,12 @@ shared-slice-read-result : tie.Need-shared-slice-read-result
 shared-slice-read-result c = search needs
 
 returns-4 : tie.Need-returns-4
-unfolding inClass _and_
-returns-4 c = let l = c .before .before .before .before .before .before .before .before .args .part .now in sym (language-tests l (c .before .before .before .before .before .before .if1 .left) (c .before .before .before .before .before .if2 .left) ∙ rw (sym (c .before .before .before .before .counted .ensures) ∙ c .before .before .before .if3 .taken, ne-eqb 32 (getD l 0 0) (λ q. c .before .if4 .left (sym q))))
+unfolding _and_
+returns-4 c = let l = c .before .before .before .before .before .before .before .before .args .part .now in sym (language-tests l (c .before .before .before .before .before .before .if1 .left) (c .before .before .before .before .before .if2 .left) ∙ rw (sym (c .before .before .before .before .all-plain .ensures) ∙ c .before .before .before .if3 .taken, ne-eqb 32 (getD l 0 0) (λ q. c .before .if4 .left (sym q))))
 
 returns-5 : tie.Need-returns-5
-unfolding inClass _and_
-returns-5 c = let l = c .before .before .before .before .before .args .part .now in sym (language-tests l (c .before .before .before .if1 .left) (c .before .before .if2 .left) ∙ rw (sym (c .before .counted .ensures) ∙ c .if3 .left))
+unfolding _and_
+returns-5 c = let l = c .before .before .before .before .before .args .part .now in sym (language-tests l (c .before .before .before .if1 .left) (c .before .before .if2 .left) ∙ rw (sym (c .before .all-plain .ensures) ∙ c .if3 .left))
 
 pub valid-language-spec : {M : Type 1} → statement M
 valid-language-spec =
@@ -48,7 +47,7 @@ valid-language-spec =
     (tie.spec
     returns
     returns-2
-    counted-requires
+    all-plain-requires
     shared-slice-read-if4
     returns-3
     sub-result

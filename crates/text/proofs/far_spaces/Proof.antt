@@ -1,23 +1,25 @@
 -- The invariant of both loops: past the spaces of what is left stands what stood past those at i.
 use native.Mathlib.Omega.{arith}
 use mathlib.Core.Path.{sym, _∙_, ap}
-use Rattle.text.proofs.Steps.{skip-end, skip-space, skip-other, skips-on}
+use Rattle.text.proofs.Steps.{past-stop, past-on, past-off, past-block, skip-past}
+use borrow.Author.Tests.{eq-eqb, ne-eqb}
 use borrow.Author.Needs.{needs}
 use Prim.Native.Nat.{_-_, _≤_}
 use lib.ListN.{length, drop}
-use Rattle.text.specs.Read.{skip}
+use Rattle.text.specs.Names.{past}
+use Rattle.text.specs.Held.{isSpace}
 use mathlib.Core.Path.{_≡_}
 use Rattle.text.proofs.far_spaces.Statement.{statement}
 use Rattle.text.proofs.far_spaces.Tie as tie
 
 abbrev Inv-loop : tie.InvT-loop
-Inv-loop s i j₀ j = (j ≤ length s) × (skip (drop j s) ≡ skip (drop i s))
+Inv-loop s i j₀ j = (j ≤ length s) × (past isSpace (drop j s) ≡ past isSpace (drop i s))
 
 abbrev μ-loop : tie.MeasureT-loop
 μ-loop s i j₀ j = length s - j
 
 abbrev Inv-loop2 : tie.InvT-loop2
-Inv-loop2 s i j₀ j = (j ≤ length s) × (skip (drop j s) ≡ skip (drop i s))
+Inv-loop2 s i j₀ j = (j ≤ length s) × (past isSpace (drop j s) ≡ past isSpace (drop i s))
 
 abbrev μ-loop2 : tie.MeasureT-loop2
 μ-loop2 s i j₀ j = length s - j
@@ -26,7 +28,7 @@ place-requires : tie.Need-place-requires Inv-loop μ-loop Inv-loop2 μ-loop2
 place-requires c κs = search needs
 
 loop-holds : tie.Need-loop-holds Inv-loop μ-loop Inv-loop2 μ-loop2
-loop-holds c = (c .place .ensures .within, ap skip (c .place .ensures .left))
+loop-holds c = (c .place .ensures .within, ap (past isSpace) (c .place .ensures .left))
 
 is-gap-requires : tie.Need-is-gap-requires Inv-loop μ-loop Inv-loop2 μ-loop2
 is-gap-requires c κs = search needs
@@ -35,10 +37,10 @@ add-j : tie.Need-add-j Inv-loop μ-loop Inv-loop2 μ-loop2
 add-j c = search needs
 
 loop-less : tie.Need-loop-less Inv-loop μ-loop Inv-loop2 μ-loop2
-loop-less c = let q = c .before in let l = q .before .loop in let a = q .before .before .before .before .args in let g = skips-on (a .s .now) (a .i) (l .j) 16 (l .inv .0) (l .inv .1) (sym (q .is-gap .ensures) ∙ c .if1 .taken) in omega (arith, g .0)
+loop-less c = let q = c .before in let l = q .before .loop in let a = q .before .before .before .before .args in let g = past-block isSpace (a .s .now) (l .j) 16 (l .inv .0) (l .inv .1) (sym (q .is-gap .ensures) ∙ c .if1 .taken) in omega (arith, g .0)
 
 loop-again : tie.Need-loop-again Inv-loop μ-loop Inv-loop2 μ-loop2
-loop-again c = let q = c .before in let l = q .before .loop in let a = q .before .before .before .before .args in skips-on (a .s .now) (a .i) (l .j) 16 (l .inv .0) (l .inv .1) (sym (q .is-gap .ensures) ∙ c .if1 .taken)
+loop-again c = let q = c .before in let l = q .before .loop in let a = q .before .before .before .before .args in past-block isSpace (a .s .now) (l .j) 16 (l .inv .0) (l .inv .1) (sym (q .is-gap .ensures) ∙ c .if1 .taken)
 
 loop2-holds : tie.Need-loop2-holds Inv-loop μ-loop Inv-loop2 μ-loop2
 loop2-holds c = search needs
@@ -47,8 +49,7 @@ shared-slice-read-if2 : tie.Need-shared-slice-read-if2 Inv-loop μ-loop Inv-loop
 shared-slice-read-if2 c = search needs
 
 returns : tie.Need-returns Inv-loop μ-loop Inv-loop2 μ-loop2
-unfolding skip
-returns c = let l = c .before .before .before in let a = l .before .before .before .before .before .before .args in record { within = search needs; left = sym (skip-other (a .s .now) (l .loop2 .j) (search needs) (c .if2 .taken)) ∙ l .loop2 .inv .1 }
+returns c = let l = c .before .before .before in let a = l .before .before .before .before .before .before .args in record { within = search needs; left = sym (past-off isSpace (a .s .now) (l .loop2 .j) (search needs) (ne-eqb _ 32 (c .if2 .taken))) ∙ l .loop2 .inv .1 ∙ sym (skip-past (drop (a .i) (a .s .now))) }
 
 add-j-2 : tie.Need-add-j-2 Inv-loop μ-loop Inv-loop2 μ-loop2
 add-j-2 c = search needs
@@ -57,11 +58,10 @@ loop2-less : tie.Need-loop2-less Inv-loop μ-loop Inv-loop2 μ-loop2
 loop2-less c = search needs
 
 loop2-again : tie.Need-loop2-again Inv-loop μ-loop Inv-loop2 μ-loop2
-loop2-again c = let l = c .before .before .before in let a = l .before .before .before .before .before .before .args in (search needs, sym (skip-space (a .s .now) (l .loop2 .j) (search needs) (c .if2 .left)) ∙ l .loop2 .inv .1)
+loop2-again c = let l = c .before .before .before in let a = l .before .before .before .before .before .before .args in (search needs, sym (past-on isSpace (a .s .now) (l .loop2 .j) (search needs) (eq-eqb _ 32 (c .if2 .left))) ∙ l .loop2 .inv .1)
 
 returns-2 : tie.Need-returns-2 Inv-loop μ-loop Inv-loop2 μ-loop2
-unfolding skip
-returns-2 c = let a = c .before .before .before .before .before .before .before .args in record { within = search needs; left = sym (skip-end (a .s .now) (c .before .loop2 .j) (search needs)) ∙ c .before .loop2 .inv .1 }
+returns-2 c = let a = c .before .before .before .before .before .before .before .args in record { within = search needs; left = sym (past-stop isSpace (a .s .now) (c .before .loop2 .j) (search needs)) ∙ c .before .loop2 .inv .1 ∙ sym (skip-past (drop (a .i) (a .s .now))) }
 
 pub far-spaces-spec : {M : Type 1} → statement M
 far-spaces-spec =

@@ -4,34 +4,19 @@ use borrow.Author.Needs.{needs}
 use Rattle.text.proofs.in_class.Statement.{statement}
 use Rattle.text.proofs.in_class.Tie as tie
 
--- src/lib.rt:194:9
 is-letter-requires : tie.Need-is-letter-requires
 is-letter-requires c κs = search needs
 
--- src/lib.rt:194:9
 returns : tie.Need-returns
 unfolding inClass
 returns c = simp (← (c .is-letter .ensures)) (search tests)
 
--- src/lib.rt:197:9
 is-name-requires : tie.Need-is-name-requires
 is-name-requires c κs = search needs
 
--- src/lib.rt:197:9
 returns-2 : tie.Need-returns-2
 unfolding inClass
 returns-2 c = simp (← (c .is-name .ensures)) (search tests)
 
--- src/lib.rt:199:5
-is-plain-requires : tie.Need-is-plain-requires
-is-plain-requires c κs = search needs
-
--- src/lib.rt:190:1
-returns-3 : tie.Need-returns-3
-unfolding inClass
-returns-3 c = simp (← (c .is-plain .ensures)) (search tests)
-
 pub in-class-spec : {M : Type 1} → statement M
-in-class-spec =
-    tie.close
-    (tie.spec is-letter-requires returns is-name-requires returns-2 is-plain-requires returns-3)
+in-class-spec = tie.close (tie.spec is-letter-requires returns is-name-requires returns-2)

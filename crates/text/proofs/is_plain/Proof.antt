@@ -1,23 +1,26 @@
-use Rattle.text.specs.Laws.Tests.{tests}
+use Rattle.text.specs.Names.{isMark}
+use Rattle.text.proofs.Steps.{below-marks, marks-and-digits, behind-marks}
+use mathlib.Core.Path.{sym, _∙_}
 use borrow.Author.Needs.{needs}
 use Rattle.text.proofs.is_plain.Statement.{statement}
 use Rattle.text.proofs.is_plain.Tie as tie
 
--- src/lib.rt:184:8
-is-name-requires : tie.Need-is-name-requires
-is-name-requires c κs = search needs
-
--- src/lib.rt:185:9
 returns : tie.Need-returns
-returns c = simp (← (c .before .is-name .ensures)) (search tests)
+unfolding isMark
+returns c = rw (c .if1 .taken)
 
--- src/lib.rt:187:5
-is-mark-requires : tie.Need-is-mark-requires
-is-mark-requires c κs = search needs
-
--- src/lib.rt:181:1
 returns-2 : tie.Need-returns-2
-returns-2 c = simp (← (c .before .before .is-name .ensures), ← (c .is-mark .ensures)) (search tests)
+returns-2 c = sym (below-marks (c .before .before .args .c) (c .before .if1 .left) (search needs))
+
+returns-3 : tie.Need-returns-3
+returns-3 c = sym (marks-and-digits (c .before .before .before .args .c) (search needs) (search needs))
+
+is-letter-requires : tie.Need-is-letter-requires
+is-letter-requires c κs = search needs
+
+returns-4 : tie.Need-returns-4
+returns-4 c = c .is-letter .ensures ∙ sym (behind-marks (c .before .before .before .before .args .c) (search needs))
 
 pub is-plain-spec : {M : Type 1} → statement M
-is-plain-spec = tie.close (tie.spec is-name-requires returns is-mark-requires returns-2)
+is-plain-spec =
+    tie.close (tie.spec returns returns-2 returns-3 is-letter-requires returns-4)
