@@ -1,4 +1,4 @@
--- The two cases of a listing and of a rewriting, what the code puts in each, and how long the first line is.
+-- The two cases of a listing, what the code puts in each, and how long the first line is.
 use Prim.Native.Nat.{ℕ, _<_, _≤_}
 use mathlib.Core.Path.{_≡_, sym, subst, _∙_, ap}
 use mathlib.Core.List.{List, [], _∷_, _++_}
@@ -13,15 +13,13 @@ use Rattle.text.specs.Laws.Sizes.{size, digits-size, number-size}
 use Rattle.body.specs.Rows.{validRows}
 use Rattle.notice.specs.declared.Record.{Record}
 use Rattle.notice.specs.declared.Reading.{Reading}
-use Rattle.notice.specs.declared.Written.{Written}
 use Rattle.notice.specs.Record.{validRecord}
 use Rattle.notice.specs.Notice.{noticeText}
 use Rattle.notice.specs.Reading.{reading}
-use Rattle.notice.specs.Writing.{unwritten, Wrote, partsText}
-use Rattle.notice.specs.Theorems.{sound}
+use Rattle.notice.specs.Writing.{partsText}
+use Rattle.notice.specs.Theorems.{read-valid}
 use Rattle.notice.specs.Laws.Text.{parts-text}
 use Rattle.listing.specs.Listing.{counted, acceptedLine, refusedLine, listed, listing}
-use Rattle.listing.specs.Rewriting.{rewriting, rewritten, Rewrote}
 
 -- accepted, or refused
 module _ (a : Reading) where
@@ -34,29 +32,16 @@ module _ (a : Reading) where
   listed-refused h = rw (ne-eqb (a .refusal) 0 h)
 
 module _ (m : List ℕ) (a : Reading) (e : a ≡ reading m) where
-  -- an accepted message tells a valid record
-  pub read-valid : a .refusal ≡ 0 → validRecord (a .«record») ≡ true
-  read-valid z = sound m (a .«record») (sym e ∙ (λ i. record { refusal = z i; «record» = a .«record» })) .0
-
   -- what is put for either is the listing
   pub put-record : {b x : List ℕ} {n : ℕ} → a .refusal ≡ 0 → Put 0 (acceptedLine (a .«record») ++ partsText (a .«record»)) b x n → Put 0 (listing m) b x n
   unfolding listing
   put-record {b} {x} {n} z p =
-      let q = ap (λ (t : List ℕ). acceptedLine (a .«record») ++ t) (parts-text (a .«record») (read-valid z)) in
+      let q = ap (λ (t : List ℕ). acceptedLine (a .«record») ++ t) (parts-text (a .«record») (read-valid m a e z)) in
       subst (λ (t : List ℕ). Put 0 t b x n) (q ∙ (sym (listed-accepted a z) ∙ ap listed e)) p
 
   pub put-refusal : {b x : List ℕ} {n : ℕ} → (a .refusal ≡ 0 → ⊥) → Put 0 (refusedLine (a .refusal)) b x n → Put 0 (listing m) b x n
   unfolding listing
   put-refusal {b} {x} {n} h p = subst (λ (t : List ℕ). Put 0 t b x n) (sym (listed-refused a h) ∙ ap listed e) p
-
-  -- and what is written of either is the rewriting
-  pub rewrote-accepted : {b x : List ℕ} {w : Written} → a .refusal ≡ 0 → Wrote (a .«record») b x w → Rewrote m b x w
-  unfolding rewriting rewritten
-  rewrote-accepted z p = let q = eq-eqb (a .refusal) 0 z in record { answer = rw (← e, q) (p .answer); holds = rw (← e, q) (p .holds) }
-
-  pub rewrote-refused : {b : List ℕ} → (a .refusal ≡ 0 → ⊥) → Rewrote m b b (unwritten (a .refusal))
-  unfolding rewriting rewritten
-  rewrote-refused h = let q = ne-eqb (a .refusal) 0 h in record { answer = rw (← e, q); holds = rw (← e, q) }
 
 -- a space and two digits, or one below 10
 counted-size : (n : ℕ) → length (counted n) ≤ 3

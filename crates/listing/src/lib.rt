@@ -1,16 +1,13 @@
-// What is told of a message: the lister's lines, and the message written anew.
+// What the lister prints of a message.
 ghost use mathlib.Core.Path.{_≡_};
 ghost use Rattle.text.specs.Put.{Put};
 ghost use Rattle.body.specs.Rows.{rowsOf};
 ghost use Rattle.notice.specs.Writing.{partsText};
 ghost use Rattle.listing.specs.Listing.{disagreeingThirds, counted, acceptedLine, refusedLine, listing};
-ghost use Rattle.listing.specs.Rewriting.{Rewrote};
 use body::Rows;
 use notice::Record;
-use notice::Written;
 use notice::put_notice;
 use notice::read;
-use notice::write;
 use row::disagreeing;
 use text::place;
 use text::put;
@@ -89,20 +86,4 @@ pub fn list(message: &[u8], out: &mut [u8]) -> usize
     let record = a.record;
     let at = put_accepted(out, record);
     notice_at(out, at, record)
-}
-
-// Writes a message anew: the text of its record, or the refusal of its reading, or 14 where the buffer is too short. A refused one touches no
-// byte.
-pub fn canonical(message: &[u8], out: &mut [u8]) -> Written
-    ensures { λ w. ⌜ Rewrote (now (message .entry)) (now (out .entry)) (now (out .exit)) w ⌝ }
-{
-    let a = read(message);
-    if a.refusal != 0 {
-        return Written {
-            refusal: a.refusal,
-            length: 0,
-        };
-    }
-    let record = a.record;
-    write(record, out)
 }

@@ -4,4 +4,5 @@ pub mod Size
 pub mod Reading
 pub mod Front
 pub mod Text
+pub mod Rewriting
 pub mod Same

@@ -3,6 +3,7 @@ pub mod Record
 pub mod Notice
 pub mod Reading
 pub mod Writing
+pub mod Rewriting
 pub mod Same
 pub mod Below
 pub mod Laws

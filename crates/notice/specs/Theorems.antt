@@ -5,9 +5,9 @@ use mathlib.Core.Path.{_≡_, refl, sym, subst, _∙_, ap}
 use mathlib.Core.List.{List}
 use mathlib.Core.Bool.{Bool, true, false}
 use mathlib.Core.Logic.{_↔_}
-use lib.Dec.{leb}
+use lib.Dec.{eqb, leb}
 use lib.ListN.{length}
-use borrow.Author.Tests.{leb-true, le-leb}
+use borrow.Author.Tests.{eqb-true, leb-true, le-leb}
 use native.Mathlib.Omega.{arith}
 use Rattle.text.specs.Choice.{pick}
 use Rattle.text.specs.Piece.{Typing}
@@ -16,11 +16,13 @@ use Rattle.text.specs.Laws.Typing.{canonical-typed}
 use Rattle.text.specs.Laws.Lines.{lines-sound, lines-complete}
 use Rattle.text.specs.Out.{Out, refuse, taken}
 use Rattle.notice.specs.declared.Record.{Record}
+use Rattle.notice.specs.declared.Reading.{Reading}
 use Rattle.notice.specs.declared.Written.{Written}
 use Rattle.notice.specs.Record.{validRecord, blankRecord}
 use Rattle.notice.specs.Notice.{noticeLines, notice, noticeText}
 use Rattle.notice.specs.Reading.{readNotice, accepted, refused, result, reading}
-use Rattle.notice.specs.Writing.{Wrote}
+use Rattle.notice.specs.Writing.{unwritten, writing, Wrote}
+use Rattle.notice.specs.Rewriting.{rewriting, Rewrote}
 use Rattle.notice.specs.Same.{TellSame, SaysSame}
 use Rattle.notice.specs.Laws.Parts.{made, partLines, partsOf, lines-are, parts-kept, good-valid, valid-good, made-back}
 use Rattle.notice.specs.Laws.Lines.{notice-sound, notice-complete, notice-numbered, lines-inline}
@@ -73,6 +75,10 @@ refused-blank m h = go (leb (length m) 4096) (readNotice (lines m)) h
 pub accepted-is : (m : List ℕ) → reading m .refusal ≡ 0 → reading m ≡ accepted (reading m .«record»)
 accepted-is m e = λ i. record { refusal = e i; «record» = reading m .«record» }
 
+-- so the record of an accepted message is valid
+pub read-valid : (m : List ℕ) (a : Reading) → a ≡ reading m → a .refusal ≡ 0 → validRecord (a .«record») ≡ true
+read-valid m a e z = sound m (a .«record») (sym e ∙ (λ i. record { refusal = z i; «record» = a .«record» })) .0
+
 -- accepted exactly when some valid record's notice is typed so
 pub record Told (m : List ℕ) : Type 0 where
   pub tells : Record
@@ -109,6 +115,25 @@ refusal-range m = go (leb (length m) 4096)
 -- writing's promise leaves no choice
 pub wrote-one : {r : Record} {b x y : List ℕ} {v w : Written} → Wrote r b x v → Wrote r b y w → (v ≡ w) × (x ≡ y)
 wrote-one p q = (p .answer ∙ sym (q .answer), p .holds ∙ sym (q .holds))
+
+-- nor does the promise of a rewriting
+pub rewrote-one : {m b x y : List ℕ} {v w : Written} → Rewrote m b x v → Rewrote m b y w → (v ≡ w) × (x ≡ y)
+rewrote-one p q = (p .answer ∙ sym (q .answer), p .holds ∙ sym (q .holds))
+
+-- a message that is written anew is accepted, so its record is valid and 13 is no answer
+pub never-invalid : (m : List ℕ) (room : ℕ) → rewriting m room .refusal ≡ 13 → ⊥
+unfolding rewriting writing
+never-invalid m room = go (eqb (reading m .refusal) 0) refl
+  where
+    answered : (k : Bool) (n : ℕ) → pick {A = Written} k (record { refusal = 0; length = n }) (unwritten 14) .refusal ≡ 13 → ⊥
+    answered true n f = omega arith
+    answered false n f = omega arith
+
+    go : (k : Bool) → eqb (reading m .refusal) 0 ≡ k → pick k (writing (reading m .«record») room) (unwritten (reading m .refusal)) .refusal ≡ 13 → ⊥
+    go true e f =
+        let r = reading m .«record» in
+        answered (leb (length (noticeText r)) room) (length (noticeText r)) (rw (read-valid m (reading m) refl (eqb-true (reading m .refusal) 0 e)) at f)
+    go false e f = omega (arith, refusal-range m)
 
 -- two messages are typings of one valid record's notice, of at most 4,096 bytes each
 pub record OneNotice (a b : List ℕ) : Type 0 where

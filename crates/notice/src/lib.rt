@@ -14,6 +14,7 @@ ghost use Rattle.notice.specs.Same.{SaysSame, sameRecord};
 ghost use Rattle.notice.specs.Record.{blankRecord, validRecord};
 ghost use Rattle.notice.specs.Notice.{noticeText};
 ghost use Rattle.notice.specs.Writing.{partsText, Wrote};
+ghost use Rattle.notice.specs.Rewriting.{Rewrote};
 ghost use Rattle.notice.specs.Reading.{refused, result, reading};
 ghost use Rattle.remarks.specs.Held.{remarksAnswer};
 ghost use Rattle.notice.specs.Below.{agreement, judged, readBelow};
@@ -271,24 +272,47 @@ const INVALID: u8 = 13;
 
 const TOO_SHORT: u8 = 14;
 
+// Writes the text of a valid record: 14 where the buffer is too short for it.
+fn write_valid(r: Record, buffer: &mut [u8]) -> Written
+    requires { ⌜ validRecord r ≡ true ⌝ }
+    ensures { λ w. ⌜ Wrote r (now (buffer .entry)) (now (buffer .exit)) w ⌝ }
+{
+    if fits(r, buffer.len()) {
+        let length = put_notice(buffer, r);
+        return Written { refusal: 0, length };
+    }
+    Written {
+        refusal: TOO_SHORT,
+        length: 0,
+    }
+}
+
 // Writes the text of a record: 13, then 14 where the buffer is too short for it. A refused writing touches no byte.
 pub fn write(r: Record, buffer: &mut [u8]) -> Written
     ensures { λ w. ⌜ Wrote r (now (buffer .entry)) (now (buffer .exit)) w ⌝ }
 {
     if valid_record(r) {
-        if fits(r, buffer.len()) {
-            let length = put_notice(buffer, r);
-            return Written { refusal: 0, length };
-        }
-        return Written {
-            refusal: TOO_SHORT,
-            length: 0,
-        };
+        return write_valid(r, buffer);
     }
     Written {
         refusal: INVALID,
         length: 0,
     }
+}
+
+// Reads a message and writes it anew, or answers the refusal of its reading; a record that was read is valid and is not judged again.
+pub fn rewrite(message: &[u8], buffer: &mut [u8]) -> Written
+    ensures { λ w. ⌜ Rewrote (now (message .entry)) (now (buffer .entry)) (now (buffer .exit)) w ⌝ }
+{
+    let a = read(message);
+    if a.refusal != 0 {
+        return Written {
+            refusal: a.refusal,
+            length: 0,
+        };
+    }
+    let record = a.record;
+    write_valid(record, buffer)
 }
 
 // ---- Sameness

@@ -7,16 +7,16 @@ ghost use Rattle.text.specs.Put.{Put};
 ghost use Rattle.surface.specs.Assess.{assessing};
 ghost use Rattle.row.specs.Agreement.{agreement};
 ghost use Rattle.notice.specs.Reading.{reading};
+ghost use Rattle.notice.specs.Rewriting.{Rewrote};
 ghost use Rattle.notice.specs.Same.{SaysSame};
 ghost use Rattle.desktext.specs.Desk.{deskText};
 ghost use Rattle.listing.specs.Listing.{listing};
-ghost use Rattle.listing.specs.Rewriting.{Rewrote};
 ghost use Rattle.phengaryl.specs.Numbers.{observed, numbersOf, thirdAt, thirdsOf, rowOf};
 ghost use Rattle.phengaryl.specs.Narrow.{narrow, narrowThird};
 use desktext::desk;
-use listing::canonical;
 use listing::list;
 use notice::read;
+use notice::rewrite;
 use notice::same;
 use row::Row;
 use row::disagreeing;
@@ -45,7 +45,7 @@ pub extern "C" fn phengaryl_list(message: &[u8], out: &mut [u8]) -> usize
 pub extern "C" fn phengaryl_canonical(message: &[u8], out: &mut [u8], length: &mut usize) -> u8
     ensures { λ r. ⌜ Rewrote (now (message .entry)) (now (out .entry)) (now (out .exit)) (record { refusal = r; length = now (length .exit) }) ⌝ }
 {
-    let written = canonical(message, out);
+    let written = rewrite(message, out);
     *length = written.length;
     written.refusal
 }
