@@ -1,254 +1,202 @@
--- One line more of the rows is one step of their reading; the loop's last step is the answer.
-use Prim.Native.Nat.{ℕ, zero, suc, _+_, _-_, _<_, _≤_}
-use mathlib.Core.Path.{_≡_, refl, sym, subst, _∙_, ap}
+-- The rows read line by line: each line ends the reading, or is one row more.
+use Prim.Native.Nat.{ℕ, suc, _+_, _-_, _<_, _≤_}
+use mathlib.Core.Path.{_≡_, refl, sym, _∙_, ap}
 use mathlib.Core.List.{List, [], _∷_, _++_}
 use mathlib.Core.Bool.{Bool, true, false}
 use native.Mathlib.Numerals.{add-one}
 use native.Mathlib.Omega.{arith}
-use lib.Dec.{eqb, leb, ltb}
-use lib.ListN.{length, take, drop, replicate, length-append, length-drop, drop-of-length-le}
-use lib.Seq.{drop-cons, drop-drop}
-use borrow.Author.Tests.{eqb-true, ne-eqb, eq-eqb, leb-true, leb-false, ltb-true, ltb-false}
+use lib.Dec.{eqb, ltb}
+use lib.ListN.{length, take, drop, set, length-append, length-take, length-drop, drop-of-length-le}
+use lib.Seq.{drop-cons, drop-drop, length-take-le, take-suc-set}
+use borrow.Author.Tests.{ne-eqb, eq-eqb, ltb-true, ltb-false}
 use Rattle.text.specs.Choice.{pick, isEmpty}
 use Rattle.text.specs.Read.{Got, misfit, got}
 use Rattle.text.specs.Lines.{lines, lineSize, lineStep, linesSize, closed, opened}
+use Rattle.text.specs.declared.Line.{Line}
+use Rattle.text.specs.Held.{firstLine}
 use Rattle.text.specs.Laws.Base.{true-false}
-use Rattle.text.specs.Laws.Arrays.{take-front, pad-more}
+use Rattle.text.specs.Laws.Arrays.{pad-length, pad-more}
 use Rattle.text.specs.Laws.Held.{part-all}
-use Rattle.text.specs.Laws.Lines.{line-within, lines-first, size-more}
+use Rattle.text.specs.Laws.Lines.{lines-first, line-within, size-within, size-more}
 use Rattle.row.specs.declared.Row.{Row}
 use Rattle.row.specs.Row.{blankRow}
 use Rattle.row.specs.Reading.{wholeRow, answer}
 use Rattle.body.specs.declared.Rows.{Rows}
-use Rattle.body.specs.declared.RowsStep.{RowsStep}
-use Rattle.text.specs.Out.{refuse, taken, fit, atEnd}
-use Rattle.body.specs.Rows.{mostRows, rowsOf, makeRows, isAmong, finished, more, block, readRows}
-use Rattle.body.specs.Held.{rowLine, Kept, rowsFrom, outcome, stoppedAt, endedAt, grownTo, withRow, emptyLine, lastRow, rowStep, nextRow, noRows, rowsAnswer, RowsHeld}
+use Rattle.body.specs.declared.RowLine.{RowLine}
+use Rattle.text.specs.Out.{Out, refuse, fit, atEnd}
+use Rattle.body.specs.Rows.{mostRows, makeRows, isAmong, finished, Block, block, readRows}
+use Rattle.body.specs.Held.{rowLine, Kept, rowsAnswer, RowsHeld}
+use Rattle.body.specs.Laws.Rows.{row-line}
 
--- the rows that are kept, and one more
-kept-count : (r : Rows) → Kept r → length (rowsOf r) ≡ r .count
-kept-count r k = sym (ap (λ (s : Rows). s .count) (k .zeros))
+-- a line's row goes on, and its refusal is 5
+fit-row : {A : Type 0} (g : Got Row) (f : Row → Out A) → answer g .refusal ≡ 0 → fit 5 g f ≡ f (answer g .row)
+fit-row misfit f z = absurd (omega arith)
+fit-row (got r k) f z = refl
 
-pub kept-made : (rs : List Row) → length rs ≤ mostRows → Kept (makeRows rs)
-kept-made rs h = record { few = h; zeros = sym (ap makeRows (take-front rs (replicate (mostRows - length rs) blankRow))) }
+fit-none : {A : Type 0} (g : Got Row) (f : Row → Out A) → (answer g .refusal ≡ 0 → ⊥) → fit 5 g f ≡ refuse 5
+fit-none misfit f z = refl
+fit-none (got r k) f z = absurd (z refl)
 
-one-more : (rs : List Row) (row : Row) → length rs < mostRows → withRow (makeRows rs) row ≡ makeRows (rs ++ (row ∷ []))
-unfolding withRow
-one-more rs row h =
-    let n : length rs + 1 ≡ length (rs ++ (row ∷ [])) = sym (length-append rs (row ∷ [])) in
-    let e = pad-more mostRows blankRow rs row h in
-    λ i. record { count = n i; rows = e i }
+-- no row fits behind eight
+no-room : (seen : List Row) (l : List ℕ) (ls : List (List ℕ)) → isEmpty l ≡ false → readRows 0 seen (l ∷ ls) ≡ refuse 6
+unfolding readRows
+no-room seen [] ls e = true-false e
+no-room seen (x ∷ l) ls e = refl
 
-module _ (r : Rows) (k : Kept r) (row : Row) (h : r .count < mostRows) where
-  grown-is : withRow r row ≡ makeRows (rowsOf r ++ (row ∷ []))
-  grown-is = ap (λ (s : Rows). withRow s row) (k .zeros) ∙ one-more (rowsOf r) row (omega (arith, kept-count r k))
+-- a count and an array as one value
+abbrev held : ℕ → List Row → Rows
+held count rows = record { count = count; rows = rows }
 
-  grown-kept : Kept (withRow r row)
-  grown-kept = subst Kept (sym grown-is) (kept-made (rowsOf r ++ (row ∷ [])) (omega (arith, length-append (rowsOf r) (row ∷ []), kept-count r k)))
+-- what is kept: how long the array and its used part are
+module _ {count : ℕ} {rows : List Row} (k : Kept (held count rows)) where
+  pub size : length rows ≡ mostRows
+  size = let f = k .few in ap (λ (r : Rows). length (r .rows)) (k .zeros) ∙ pad-length mostRows blankRow (take count rows) (rw length-take (omega arith))
 
-  grown-rows : rowsOf (withRow r row) ≡ rowsOf r ++ (row ∷ [])
-  grown-rows = ap rowsOf grown-is ∙ take-front (rowsOf r ++ (row ∷ [])) (replicate (mostRows - length (rowsOf r ++ (row ∷ []))) blankRow)
+  counted : length (take count rows) ≡ count
+  counted = let f = k .few in length-take-le count rows (omega (arith, size))
 
-  grown-count : withRow r row .count ≡ r .count + 1
-  unfolding withRow
-  grown-count = refl
-
--- what one line more says of the rows' reading
-pub record NextRow (r : Rows) (m : List ℕ) (s : RowsStep) : Type 0 where
-  pub within : s .next ≤ length m
-  pub kept : Kept (s .rows)
-  pub grown : s .ends ≡ false → s .rows .count ≡ r .count + 1
-  pub clean : s .ends ≡ false → s .refusal ≡ 0
-  pub line : s .refusal ≡ 0 → s .next ≡ lineStep m
-  pub same : s .refusal ≡ 0 → s .ends ≡ true → s .closed ≡ false → s .rows ≡ r
-  pub says : rowsFrom r m ≡ pick (s .ends) (outcome m (s .refusal) (s .rows) (s .closed) (s .next)) (rowsFrom (s .rows) (drop (s .next) m))
-
-stop : (r : Rows) (m : List ℕ) (n : ℕ) → Kept r → (n ≡ 0 → ⊥) → rowsFrom r m ≡ refuse n → NextRow r m (stoppedAt r n)
-stop r m n k h e = record {
-  within = omega arith;
-  kept = k;
-  grown = λ z. true-false z;
-  clean = λ z. true-false z;
-  line = λ z. absurd (h z);
-  same = λ z x y. refl;
-  says = e ∙ rw (ne-eqb n 0 h);
-}
-
-module _ (r : Rows) (k : Kept r) (x : ℕ) (m : List ℕ) where
-  abbrev whole : List ℕ
-  whole = x ∷ m
-
-  abbrev rest : List (List ℕ)
-  rest = lines (drop (lineStep whole) whole)
-
-  first-rows : rowsFrom r whole ≡ readRows (mostRows - r .count) (rowsOf r) (take (lineSize whole) whole ∷ rest)
-  first-rows = ap (readRows (mostRows - r .count) (rowsOf r)) (lines-first x m)
-
-  -- an empty line
-  none-yet : isEmpty (rowsOf r) ≡ eqb (r .count) 0
-  none-yet = go (rowsOf r) (kept-count r k)
+  -- no row so far, told by the count
+  none-yet : isEmpty (take count rows) ≡ eqb count 0
+  none-yet = go (take count rows) counted
     where
-      go : (rs : List Row) → length rs ≡ r .count → isEmpty rs ≡ eqb (r .count) 0
-      go [] e = sym (eq-eqb (r .count) 0 (sym e))
-      go (s ∷ rs) e = sym (ne-eqb (r .count) 0 (omega arith))
+      go : (rs : List Row) → length rs ≡ count → isEmpty rs ≡ eqb count 0
+      go [] e = sym (eq-eqb count 0 (sym e))
+      go (r ∷ rs) e = sym (ne-eqb count 0 (omega arith))
 
-  empty-says : lineSize whole ≡ 0 → NextRow r whole (emptyLine r (lineStep whole))
-  unfolding readRows emptyLine
-  empty-says z = go (eqb (r .count) 0) none-yet
-    where
-      here : rowsFrom r whole ≡ pick (isEmpty (rowsOf r)) (refuse 4) (taken (block (rowsOf r) (more rest)))
-      here = first-rows ∙ rw z
+  -- one row more is stored behind the others
+  module _ (row : Row) (f : count < mostRows) where
+    grown-rows : take (count + 1) (set rows count row) ≡ take count rows ++ (row ∷ [])
+    grown-rows = let here : count < length rows = omega (arith, size) in rw add-one (take-suc-set rows count row here)
 
-      go : (b : Bool) → isEmpty (rowsOf r) ≡ b → NextRow r whole (pick b (stoppedAt r 4) (endedAt r false (lineStep whole)))
-      go true e = stop r whole 4 k (λ q. absurd (omega arith)) (here ∙ rw e)
-      go false e = record { within = line-within whole; kept = k; grown = λ q. true-false q; clean = λ q. true-false q; line = λ q. refl; same = λ a b c. refl; says = here ∙ rw e }
+    grown : Kept (held (count + 1) (set rows count row))
+    grown =
+        let n : count + 1 ≡ length (take (count + 1) (set rows count row)) = rw (grown-rows, length-append) (omega (arith, counted)) in
+        let e = ap (λ (r : Rows). set (r .rows) count row) (k .zeros) ∙ ap (λ (n : ℕ). set (makeRows (take count rows) .rows) n row) (sym counted)
+        ∙ pad-more mostRows blankRow (take count rows) row (omega (arith, counted)) ∙ ap (λ (rs : List Row). makeRows rs .rows) (sym grown-rows) in
+        record { few = omega arith; zeros = λ i. record { count = n i; rows = e i } }
 
-  module _ (s : ℕ) (z : lineSize whole ≡ suc s) where
+-- the reading so far: `count` rows are kept, and the next line starts at `at`
+pub record SoFar (m : List ℕ) (rows : List Row) (count at : ℕ) : Type 0 where
+  pub kept : Kept (held count rows)
+  pub lies : at ≡ linesSize count m
+  pub left : readRows mostRows [] (lines m) ≡ readRows (mostRows - count) (take count rows) (lines (drop at m))
+
+-- where the reading begins
+none-kept : Kept (makeRows [])
+none-kept = record { few = omega arith; zeros = refl }
+
+pub begun : (m : List ℕ) → SoFar m (makeRows [] .rows) 0 0
+unfolding linesSize
+begun m = record { kept = none-kept; lies = refl; left = refl }
+
+-- a refused reading is blank, whatever was kept
+pub refused : (m : List ℕ) (n : ℕ) → eqb n 0 ≡ false → readRows mostRows [] (lines m) ≡ refuse n → (r : Rows) (c : Bool) (at : ℕ) → RowsHeld m (rowsAnswer n r c at)
+unfolding rowsAnswer
+refused m n z e r c at = rw z (record { kept = none-kept; says = e ∙ rw z; place = rw z; blank = rw z })
+
+module _ {m : List ℕ} {rows : List Row} {count at : ℕ} (s : SoFar m rows count at) where
+  abbrev rs : List Row
+  rs = take count rows
+
+  -- a line is missing
+  pub missing : length m ≤ at → readRows mostRows [] (lines m) ≡ refuse 4
+  unfolding readRows lines
+  missing h = s .left ∙ rw (drop-of-length-le m h)
+
+  -- the line that starts there
+  module _ (h : at < length m) {line : Line} (q : line ≡ firstLine (take (length m - at) (drop at m))) where
     abbrev text : List ℕ
-    text = take (suc s) whole
+    text = take (line .size) (drop at m)
 
-    text-is : take (lineSize whole) whole ≡ text
-    text-is = ap (λ (n : ℕ). take n whole) z
+    abbrev next : ℕ
+    next = at + line .next
 
-    ninth-says : mostRows ≤ r .count → NextRow r whole (stoppedAt r 6)
-    unfolding readRows
-    ninth-says h =
-        let n : mostRows - r .count ≡ 0 = omega arith in
-        stop r whole 6 k (λ q. absurd (omega arith)) (first-rows ∙ rw (text-is, n))
+    abbrev rest : List (List ℕ)
+    rest = lines (drop next m)
 
-    module _ (h : r .count < mostRows) where
-      row-here : rowsFrom r whole ≡ fit 5 (wholeRow (opened text)) (λ row. pick (isAmong row (rowsOf r)) (refuse 7)
-          (pick (closed text) (atEnd rest (block (rowsOf r ++ (row ∷ [])) finished)) (readRows (mostRows - (r .count + 1)) (rowsOf r ++ (row ∷ [])) rest)))
-      unfolding readRows
-      row-here =
-          let n : mostRows - r .count ≡ suc (mostRows - (r .count + 1)) = omega arith in
-          first-rows ∙ rw (text-is, n)
+    -- it is the first line of what is left, and what is read
+    line-is : line ≡ firstLine (drop at m)
+    line-is = q ∙ ap firstLine (part-all at m)
 
-      row-says : NextRow r whole (rowStep r (rowLine text) (lineStep whole) (length whole))
-      unfolding rowStep rowLine lastRow lines
-      row-says = go (wholeRow (opened text)) refl
-        where
-          more-says : (row : Row) → (c : Bool) → closed text ≡ c
-              → rowsFrom r whole ≡ pick c (atEnd rest (block (rowsOf r ++ (row ∷ [])) finished)) (readRows (mostRows - (r .count + 1)) (rowsOf r ++ (row ∷ [])) rest)
-              → NextRow r whole (pick c (lastRow (withRow r row) (lineStep whole) (length whole)) (grownTo (withRow r row) (lineStep whole)))
-          more-says row false q e = record {
-            within = line-within whole;
-            kept = grown-kept r k row h;
-            grown = λ _. grown-count r k row h;
-            clean = λ _. refl;
-            line = λ _. refl;
-            same = λ a b c. true-false (sym b);
-            says = e ∙ rw (grown-rows r k row h, grown-count r k row h);
-          }
-          more-says row true q e = last (ltb (lineStep whole) (length whole)) refl
-            where
-              last : (b : Bool) → ltb (lineStep whole) (length whole) ≡ b → NextRow r whole (pick b (stoppedAt (withRow r row) 4) (endedAt (withRow r row) true (lineStep whole)))
-              last true f =
-                  let l = ltb-true (lineStep whole) (length whole) f in
-                  record {
-                    within = omega arith;
-                    kept = grown-kept r k row h;
-                    grown = λ y. true-false y;
-                    clean = λ y. true-false y;
-                    line = λ y. absurd (omega arith);
-                    same = λ a b c. absurd (omega arith);
-                    says = e ∙ behind (drop (lineStep whole) whole) (drop-cons whole (lineStep whole) 0 l);
-                  }
-                where
-                  behind : (l : List ℕ) {y : ℕ} {t : List ℕ} → l ≡ y ∷ t → atEnd (lines l) (block (rowsOf r ++ (row ∷ [])) finished) ≡ refuse 4
-                  behind l {y} {t} w = ap (λ (j : List ℕ). atEnd (lines j) (block (rowsOf r ++ (row ∷ [])) finished)) w ∙ ap (λ (j : List (List ℕ)). atEnd j (block (rowsOf r ++ (row ∷ [])) finished)) (lines-first y t)
-              last false f =
-                  let l = ltb-false (lineStep whole) (length whole) f in
-                  record {
-                    within = line-within whole;
-                    kept = grown-kept r k row h;
-                    grown = λ y. true-false y;
-                    clean = λ y. true-false y;
-                    line = λ y. refl;
-                    same = λ a b c. true-false c;
-                    says = e ∙ ending (drop (lineStep whole) whole) (drop-of-length-le whole l) ∙ rw (grown-rows r k row h);
-                  }
-                where
-                  ending : (l : List ℕ) → l ≡ [] → atEnd (lines l) (block (rowsOf r ++ (row ∷ [])) finished) ≡ taken (block (rowsOf r ++ (row ∷ [])) finished)
-                  ending l w = ap (λ (j : List ℕ). atEnd (lines j) (block (rowsOf r ++ (row ∷ [])) finished)) w
+    next-lies : next ≡ linesSize (suc count) m
+    next-lies = let w = size-more count m in rw (line-is, s .lies, w)
 
-          new-says : (row : Row) → (b : Bool) → isAmong row (rowsOf r) ≡ b
-              → rowsFrom r whole ≡ pick b (refuse 7) (pick (closed text) (atEnd rest (block (rowsOf r ++ (row ∷ [])) finished)) (readRows (mostRows - (r .count + 1)) (rowsOf r ++ (row ∷ [])) rest))
-              → NextRow r whole (pick b (stoppedAt r 7) (pick (closed text) (lastRow (withRow r row) (lineStep whole) (length whole)) (grownTo (withRow r row) (lineStep whole))))
-          new-says row true q e = stop r whole 7 k (λ y. absurd (omega arith)) e
-          new-says row false q e = more-says row (closed text) refl e
+    first : readRows mostRows [] (lines m) ≡ readRows (mostRows - count) rs (text ∷ rest)
+    first =
+        let e : lines (drop at m) ≡ take (lineSize (drop at m)) (drop at m) ∷ lines (drop (lineStep (drop at m)) (drop at m)) = rw (drop-cons m at 0 h) (lines-first _ _) in
+        s .left ∙ ap (readRows (mostRows - count) rs) e ∙ rw (line-is, drop-drop)
 
-          go : (g : Got Row) → wholeRow (opened text) ≡ g
-              → NextRow r whole (pick (eqb (answer g .refusal) 0) (pick (isAmong (answer g .row) (rowsOf r)) (stoppedAt r 7)
-              (pick (closed text) (lastRow (withRow r (answer g .row)) (lineStep whole) (length whole)) (grownTo (withRow r (answer g .row)) (lineStep whole)))) (stoppedAt r 5))
-          go misfit e = stop r whole 5 k (λ y. absurd (omega arith)) (row-here ∙ rw e)
-          go (got row j) e = new-says row (isAmong row (rowsOf r)) refl (row-here ∙ rw e)
+    -- it lies within the message
+    pub within : (at + line .size ≤ length m) × (next ≤ length m)
+    within = let l = length-drop at m in let a = size-within (drop at m) in let b = line-within (drop at m) in rw line-is (omega arith, omega arith)
 
-pub next-says : (r : Rows) (m : List ℕ) → Kept r → NextRow r m (nextRow r m)
-unfolding nextRow readRows lines
-next-says r [] k = stop r [] 4 k (λ q. absurd (omega arith)) refl
-next-says r (x ∷ m) k = rw (ne-eqb (suc (length m)) 0 (omega arith)) (sized (lineSize (x ∷ m)) refl)
-  where
-    sized : (n : ℕ) → lineSize (x ∷ m) ≡ n
-        → NextRow r (x ∷ m) (pick (eqb n 0) (emptyLine r (lineStep (x ∷ m))) (pick (leb mostRows (r .count)) (stoppedAt r 6) (rowStep r (rowLine (take n (x ∷ m))) (lineStep (x ∷ m)) (length (x ∷ m)))))
-    sized zero e = empty-says r k x m e
-    sized (suc s) e = rw (ne-eqb (suc s) 0 (omega arith)) (full (leb mostRows (r .count)) refl)
+    -- it is empty
+    pub blank-line : line .size ≡ 0 → RowsHeld m (rowsAnswer (pick (eqb count 0) 4 0) (held count rows) false next)
+    unfolding readRows rowsAnswer
+    blank-line z = go (eqb count 0) (none-yet (s .kept))
       where
-        full : (b : Bool) → leb mostRows (r .count) ≡ b → NextRow r (x ∷ m) (pick b (stoppedAt r 6) (rowStep r (rowLine (take (suc s) (x ∷ m))) (lineStep (x ∷ m)) (length (x ∷ m))))
-        full true f = ninth-says r k x m s e (leb-true mostRows (r .count) f)
-        full false f = row-says r k x m s e (leb-false mostRows (r .count) f)
+        go : (b : Bool) → isEmpty rs ≡ b → RowsHeld m (rowsAnswer (pick b 4 0) (held count rows) false next)
+        go true e = refused m 4 refl (first ∙ rw (z, e)) (held count rows) false next
+        go false e = record { kept = s .kept; says = first ∙ rw (z, e); place = next-lies; blank = refl }
 
--- the loop's last step is the answer
-module _ (m : List ℕ) (at : ℕ) (r : Rows) (s : RowsStep) (n : NextRow r (drop at m) s) (ends : s .ends ≡ true)
-    (inv : rowsFrom r (drop at m) ≡ readRows mostRows [] (lines m)) (lies : at ≡ linesSize (r .count) m) where
-  said : readRows mostRows [] (lines m) ≡ outcome m (s .refusal) (s .rows) (s .closed) (at + s .next)
-  said = sym inv ∙ n .says ∙ rw (ends, drop-drop)
+    module _ (z : line .size ≡ 0 → ⊥) where
+      some-text : isEmpty text ≡ false
+      some-text = go text (length-take-le (line .size) (drop at m) (rw line-is (size-within (drop at m))))
+        where
+          go : (l : List ℕ) → length l ≡ line .size → isEmpty l ≡ false
+          go [] e = absurd (z (sym e))
+          go (x ∷ l) e = refl
 
-  pub answer-held : RowsHeld m (rowsAnswer (s .refusal) (s .rows) (s .closed) (at + s .next))
-  unfolding rowsAnswer
-  answer-held = go (eqb (s .refusal) 0) refl (s .closed) refl
-    where
-      go : (a : Bool) → eqb (s .refusal) 0 ≡ a → (b : Bool) → s .closed ≡ b
-          → RowsHeld m (pick a (pick b (record { refusal = 0; rows = s .rows; closed = true; next = 0 }) (record { refusal = 0; rows = s .rows; closed = false; next = at + s .next })) (noRows (s .refusal)))
-      go false e b f = record {
-        kept = kept-made [] (omega arith);
-        says = said ∙ rw e;
-        place = rw e;
-        blank = rw e;
-      }
-      go true e true f = record { kept = n .kept; says = said ∙ rw (e, f); place = refl; blank = refl }
-      go true e false f =
-          let z = eqb-true (s .refusal) 0 e in
-          let q = n .same z ends f in
-          let l = n .line z in
-          let c : s .rows .count ≡ r .count = ap (λ (x : Rows). x .count) q in
-          let w = size-more (r .count) m in
-          let y : lineStep (drop at m) ≡ lineStep (drop (linesSize (r .count) m) m) = ap (λ (k : ℕ). lineStep (drop k m)) lies in
-          record { kept = n .kept; says = said ∙ rw (e, f); place = rw c (omega arith); blank = refl }
+      -- it is a ninth
+      pub ninth : mostRows ≤ count → readRows mostRows [] (lines m) ≡ refuse 6
+      ninth f = let n : mostRows - count ≡ 0 = omega arith in first ∙ rw n (no-room rs text rest some-text)
 
--- where the loop begins
-module _ (r : Rows) (e : r ≡ makeRows []) (m : List ℕ) where
-  pub began : Kept r × (rowsFrom r m ≡ readRows mostRows [] (lines m)) × (0 ≡ linesSize (r .count) m)
-  unfolding linesSize
-  began = rw e (kept-made [] (omega arith), refl, refl)
+      -- it is read as a row
+      module _ (f : count < mostRows) {r : RowLine} (p : r ≡ rowLine (take (at + line .size - at) (drop at m))) where
+        -- what it says, and what is read then
+        row-is : r ≡ rowLine text
+        row-is = let n : at + line .size - at ≡ line .size = omega arith in p ∙ rw n
 
--- one turn of the loop, at a place of the message
-module _ (m : List ℕ) (at : ℕ) (r : Rows) (s : RowsStep) (k : Kept r) (e : s ≡ nextRow r (take (length m - at) (drop at m))) (low : at ≤ length m) where
-  pub stepped : NextRow r (drop at m) s
-  stepped = subst (NextRow r (drop at m)) (sym (e ∙ ap (nextRow r) (part-all at m))) (next-says r (drop at m) k)
+        abbrev behind : Row → Bool → Out Block
+        behind row c = pick (isAmong row rs) (refuse 7) (pick c (atEnd rest (block (rs ++ (row ∷ [])) finished)) (readRows (mostRows - (count + 1)) (rs ++ (row ∷ [])) rest))
 
-  pub stays : at + s .next ≤ length m
-  stays = let w = stepped .within in omega (arith, length-drop at m)
+        row-here : readRows mostRows [] (lines m) ≡ fit 5 (wholeRow (opened text)) (λ row. behind row (closed text))
+        row-here = let n : mostRows - count ≡ suc (mostRows - (count + 1)) = omega arith in first ∙ rw n (row-line (mostRows - (count + 1)) rs text rest some-text)
 
-  module _ (goes : s .ends ≡ false) (inv : rowsFrom r (drop at m) ≡ readRows mostRows [] (lines m)) (lies : at ≡ linesSize (r .count) m) where
-    pub again : (at + s .next ≤ length m) × Kept (s .rows) × (rowsFrom (s .rows) (drop (at + s .next) m) ≡ readRows mostRows [] (lines m)) × (at + s .next ≡ linesSize (s .rows .count) m)
-    again =
-        let n = stepped in
-        let l = n .line (n .clean goes) in
-        let g = n .grown goes in
-        let w = size-more (r .count) m in
-        let y : lineStep (drop at m) ≡ lineStep (drop (linesSize (r .count) m) m) = ap (λ (j : ℕ). lineStep (drop j m)) lies in
-        (stays, n .kept, rw (← drop-drop) (sym (n .says ∙ rw goes) ∙ inv), rw (g, add-one) (omega arith))
+        -- it is none
+        pub stray : (r .refusal ≡ 0 → ⊥) → readRows mostRows [] (lines m) ≡ refuse 5
+        unfolding rowLine
+        stray y = row-here ∙ fit-none (wholeRow (opened text)) (λ row. behind row (closed text)) (λ e. y (ap (λ (l : RowLine). l .refusal) row-is ∙ e))
 
-    pub fewer : 9 - s .rows .count < 9 - r .count
-    fewer = let g = stepped .grown goes in let f = stepped .kept .few in omega arith
+        module _ (y : r .refusal ≡ 0) where
+          one-more : readRows mostRows [] (lines m) ≡ behind (r .row) (r .closed)
+          unfolding rowLine
+          one-more = row-here ∙ fit-row (wholeRow (opened text)) (λ row. behind row (closed text)) (sym (ap (λ (l : RowLine). l .refusal) row-is) ∙ y) ∙ rw row-is
+
+          -- its runway is there already
+          pub twice : isAmong (r .row) rs ≡ true → readRows mostRows [] (lines m) ≡ refuse 7
+          twice b = one-more ∙ rw b
+
+          module _ (b : isAmong (r .row) rs ≡ false) where
+            -- it is one row more
+            pub goes-on : r .closed ≡ false → SoFar m (set rows count (r .row)) (count + 1) next
+            goes-on c =
+                let one = grown-rows (s .kept) (r .row) f in
+                record { kept = grown (s .kept) (r .row) f; lies = rw add-one next-lies; left = one-more ∙ rw (b, c, one) }
+
+            -- it is the last row
+            pub last-line : r .closed ≡ true → RowsHeld m (rowsAnswer (pick (ltb next (length m)) 4 0) (held (count + 1) (set rows count (r .row))) true next)
+            unfolding rowsAnswer lines
+            last-line c = go (ltb next (length m)) refl
+              where
+                said : readRows mostRows [] (lines m) ≡ atEnd rest (block (rs ++ (r .row ∷ [])) finished)
+                said = one-more ∙ rw (b, c)
+
+                go : (t : Bool) → ltb next (length m) ≡ t → RowsHeld m (rowsAnswer (pick t 4 0) (held (count + 1) (set rows count (r .row))) true next)
+                go true e =
+                    let l = ltb-true next (length m) e in
+                    refused m 4 refl (said ∙ rw (drop-cons m next 0 l, lines-first)) (held (count + 1) (set rows count (r .row))) true next
+                go false e =
+                    let l = ltb-false next (length m) e in
+                    let one = grown-rows (s .kept) (r .row) f in
+                    record { kept = grown (s .kept) (r .row) f; says = said ∙ rw (drop-of-length-le m l, one); place = refl; blank = refl }

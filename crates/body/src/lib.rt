@@ -3,15 +3,14 @@
 
 ghost use mathlib.Core.Path.{_≡_};
 ghost use mathlib.Core.List.{[]};
-ghost use Prim.Native.Nat.{_<_};
-ghost use lib.ListN.{length, take, drop};
-ghost use Rattle.text.specs.Choice.{_and_, all};
-ghost use Rattle.text.specs.Lines.{lines, under};
+ghost use lib.Dec.{eqb, ltb};
+ghost use lib.ListN.{take, drop};
+ghost use Rattle.text.specs.Choice.{pick, all};
 ghost use Rattle.text.specs.Put.{Put};
 ghost use Rattle.row.specs.Row.{validRow, isBlankRow};
 ghost use Rattle.row.specs.Writing.{rowText};
-ghost use Rattle.body.specs.Rows.{sameRunway, isAmong, newRunways, latestOf, latest, rowsOf, makeRows, validRows, rowsText, more};
-ghost use Rattle.body.specs.Held.{rowLine, stoppedAt, withRow, emptyLine, lastRow, rowStep, nextRow, noRows, rowsAnswer, RowsHeld};
+ghost use Rattle.body.specs.Rows.{sameRunway, isAmong, newRunways, latestOf, latest, rowsOf, makeRows, validRows, rowsText};
+ghost use Rattle.body.specs.Held.{rowLine, noRows, rowsAnswer, RowsHeld};
 use items::Item;
 use row::Row;
 use row::blank_row;
@@ -186,134 +185,15 @@ pub struct RowLine {
 fn row_line(line: &[u8]) -> RowLine
     ensures { λ r. ⌜ r ≡ rowLine (now (line .entry)) ⌝ }
 {
-    if is_closed(line) {
-        let n = line.len() - 1;
-        let read = read_row(&line[..n]);
-        let row = read.row;
-        RowLine {
-            refusal: read.refusal,
-            row,
-            closed: true,
-        }
-    } else {
-        let read = read_row(line);
-        let row = read.row;
-        RowLine {
-            refusal: read.refusal,
-            row,
-            closed: false,
-        }
+    let closed = is_closed(line);
+    let size = if closed { line.len() - 1 } else { line.len() };
+    let read = read_row(&line[..size]);
+    let row = read.row;
+    RowLine {
+        refusal: read.refusal,
+        row,
+        closed,
     }
-}
-
-// One line more of the rows: the reading ends there, or goes on at `next` with one row more.
-pub struct RowsStep {
-    pub ends: bool,
-    pub refusal: u8,
-    pub rows: Rows,
-    pub closed: bool,
-    pub next: usize,
-}
-
-fn stopped(rows: Rows, refusal: u8) -> RowsStep
-    ensures { λ s. ⌜ s ≡ stoppedAt rows refusal ⌝ }
-{
-    RowsStep {
-        ends: true,
-        refusal,
-        rows,
-        closed: false,
-        next: 0,
-    }
-}
-
-// The rows with one more.
-fn with_row(r: Rows, row: Row) -> Rows
-    requires { ⌜ r .count < 8 ⌝ }
-    ensures { λ s. ⌜ s ≡ withRow r row ⌝ }
-{
-    let n = r.count;
-    let mut s = r;
-    s.rows[n as usize] = row;
-    s.count = n + 1;
-    s
-}
-
-// An empty line ends the rows: 4 while there is none.
-fn empty_line(rows: Rows, next: usize) -> RowsStep
-    ensures { λ s. ⌜ s ≡ emptyLine rows next ⌝ }
-{
-    if rows.count == 0 {
-        return stopped(rows, 4);
-    }
-    RowsStep {
-        ends: true,
-        refusal: 0,
-        rows,
-        closed: false,
-        next,
-    }
-}
-
-// A row that `)` closes is the last: 4 where bytes follow.
-fn last_row(rows: Rows, next: usize, length: usize) -> RowsStep
-    ensures { λ s. ⌜ s ≡ lastRow rows next length ⌝ }
-{
-    if next < length {
-        return stopped(rows, 4);
-    }
-    RowsStep {
-        ends: true,
-        refusal: 0,
-        rows,
-        closed: true,
-        next,
-    }
-}
-
-// A line in a row's place, behind fewer than eight rows: 5, then 7.
-fn row_step(rows: Rows, line: RowLine, next: usize, length: usize) -> RowsStep
-    requires { ⌜ rows .count < 8 ⌝ }
-    ensures { λ s. ⌜ s ≡ rowStep rows line next length ⌝ }
-{
-    if line.refusal != 0 {
-        return stopped(rows, 5);
-    }
-    let row = line.row;
-    let seen = rows.rows;
-    if is_among(row, seen, rows.count) {
-        return stopped(rows, 7);
-    }
-    let more = with_row(rows, row);
-    if line.closed {
-        return last_row(more, next, length);
-    }
-    RowsStep {
-        ends: false,
-        refusal: 0,
-        rows: more,
-        closed: false,
-        next,
-    }
-}
-
-// The line at the front of `m`, in a row's place: 6 before its own rules.
-fn next_row(rows: Rows, m: &[u8]) -> RowsStep
-    ensures { λ s. ⌜ s ≡ nextRow rows (now (m .entry)) ⌝ }
-{
-    if m.len() == 0 {
-        return stopped(rows, 4);
-    }
-    let line = first_line(m);
-    let size = line.size;
-    if size == 0 {
-        return empty_line(rows, line.next);
-    }
-    if MOST_ROWS <= rows.count {
-        return stopped(rows, 6);
-    }
-    let read = row_line(&m[..size]);
-    row_step(rows, read, line.next, m.len())
 }
 
 fn blank_rows() -> Rows
@@ -338,6 +218,20 @@ fn no_rows(refusal: u8) -> RowsRead
     }
 }
 
+// An empty line ends the rows: 4 while there is none.
+fn empty_line(count: u8) -> u8
+    ensures { λ r. ⌜ r ≡ pick (eqb count 0) 4 0 ⌝ }
+{
+    if count == 0 { 4 } else { 0 }
+}
+
+// A row that `)` closes is the last: 4 where bytes follow.
+fn last_row(next: usize, length: usize) -> u8
+    ensures { λ r. ⌜ r ≡ pick (ltb next length) 4 0 ⌝ }
+{
+    if next < length { 4 } else { 0 }
+}
+
 fn rows_answer(refusal: u8, rows: Rows, closed: bool, at: usize) -> RowsRead
     ensures { λ r. ⌜ r ≡ rowsAnswer refusal rows closed at ⌝ }
 {
@@ -360,23 +254,54 @@ fn rows_answer(refusal: u8, rows: Rows, closed: bool, at: usize) -> RowsRead
     }
 }
 
-// The rows at the front of `m`, line by line: the first line that does not fit decides.
+// The rows at the front of `m`, line by line: the first line that does not fit decides. 4: none stands there; 6: a ninth; 5: no row;
+// 7: its runway is one of those before it.
 pub fn read_rows(m: &[u8]) -> RowsRead
     ensures { λ r. ⌜ RowsHeld (now (m .entry)) r ⌝ }
 {
-    let mut rows = blank_rows();
+    let blank = blank_row();
+    let mut rows = [blank; 8];
+    let mut count: u8 = 0;
     let mut closed = false;
     let mut at: usize = 0;
     let refusal: u8 = 'lines: loop {
-        let step = next_row(rows, &m[at..]);
-        rows = step.rows;
-        closed = step.closed;
-        at += step.next;
-        if step.ends {
-            break 'lines step.refusal;
+        if m.len() <= at {
+            break 'lines 4;
+        }
+        let start = at;
+        let line = first_line(&m[start..]);
+        let size = line.size;
+        let end = start + size;
+        at += line.next;
+        if size == 0 {
+            break 'lines empty_line(count);
+        }
+        if MOST_ROWS <= count {
+            break 'lines 6;
+        }
+        let read = row_line(&m[start..end]);
+        if read.refusal != 0 {
+            break 'lines 5;
+        }
+        let row = read.row;
+        // in place, since a call would copy the array for each row
+        let mut k: u8 = 0;
+        while k < count {
+            let r = rows[k as usize];
+            if same_runway(r, row) {
+                break 'lines 7;
+            }
+            k += 1;
+        }
+        rows[count as usize] = row;
+        count += 1;
+        closed = read.closed;
+        if closed {
+            break 'lines last_row(at, m.len());
         }
     };
-    rows_answer(refusal, rows, closed, at)
+    let kept = Rows { count, rows };
+    rows_answer(refusal, kept, closed, at)
 }
 
 // ---- Writing

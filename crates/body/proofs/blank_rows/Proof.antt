@@ -3,11 +3,9 @@ use borrow.Author.Needs.{needs}
 use Rattle.body.proofs.blank_rows.Statement.{statement}
 use Rattle.body.proofs.blank_rows.Tie as tie
 
--- src/lib.rt:315:9
 blank-row-requires : tie.Need-blank-row-requires
 blank-row-requires c κs = search needs
 
--- src/lib.rt:312:1
 returns : tie.Need-returns
 returns c = simp (← (c .blank-row .ensures)) (search tests)
 

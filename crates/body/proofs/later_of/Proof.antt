@@ -4,16 +4,13 @@ use borrow.Author.Needs.{needs}
 use Rattle.body.proofs.later_of.Statement.{statement}
 use Rattle.body.proofs.later_of.Tie as tie
 
--- src/lib.rt:147:8
 is-later-requires : tie.Need-is-later-requires
 is-later-requires c κs = search needs
 
--- src/lib.rt:144:1
 returns : tie.Need-returns
 unfolding latestOf
 returns c = simp (← (c .before .is-later .ensures)) (search tests)
 
--- src/lib.rt:144:1
 returns-2 : tie.Need-returns-2
 unfolding latestOf
 returns-2 c = simp (← (c .before .is-later .ensures)) (search tests)

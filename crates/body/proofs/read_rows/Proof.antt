@@ -1,68 +1,182 @@
-use mathlib.Core.Path.{_≡_, sym, subst}
-use Rattle.body.specs.Held.{Kept, rowsFrom, RowsHeld}
-use Rattle.body.proofs.Steps.{answer-held, began, stepped, stays, again, fewer}
-use Prim.Native.Nat.{_≤_, _-_}
-use mathlib.Core.List.{[]}
+-- The outer loop's invariant: the rows so far and what is read from here on are what the whole message is. The inner loop's:
+-- the runway is one of those so far just where it is one of those from the k-th on.
+use Prim.Native.Nat.{_-_}
+use mathlib.Core.Path.{_≡_, refl, sym, _∙_}
+use mathlib.Core.Bool.{false}
+use mathlib.Core.Logic.{⊎-elim}
 use native.Mathlib.Omega.{arith}
-use lib.ListN.{length, drop}
-use Rattle.text.specs.Lines.{lines, linesSize}
-use Rattle.body.specs.Rows.{mostRows, readRows}
+use lib.ListN.{take, drop}
+use Rattle.body.specs.Rows.{mostRows, isAmong}
+use Rattle.body.specs.Held.{rowsAnswer, RowsHeld}
+use Rattle.body.proofs.Loops.{none-used, among-hit, among-miss, among-none}
+use Rattle.body.proofs.Steps.{SoFar, begun, size, refused, missing, within, blank-line, ninth, stray, twice, goes-on, last-line}
 use borrow.Author.Needs.{needs}
 use Rattle.body.proofs.read_rows.Statement.{statement}
 use Rattle.body.proofs.read_rows.Tie as tie
 
+abbrev Inv-loop : tie.InvT-loop
+Inv-loop m rows count closed at start size end read row k₀ k = isAmong row (take count rows) ≡ isAmong row (drop k (take count rows))
+
+abbrev μ-loop : tie.MeasureT-loop
+μ-loop m rows count closed at start size end read row k₀ k = count - k
+
 abbrev Inv-lines : tie.InvT-lines
-Inv-lines m rows₀ at₀ rows at = (at ≤ length m) × Kept rows × (rowsFrom rows (drop at m) ≡ readRows mostRows [] (lines m)) × (at ≡ linesSize (rows .count) m)
+Inv-lines m rows₀ count₀ closed₀ at₀ rows count closed at = SoFar m rows count at × (closed ≡ false)
 
 abbrev μ-lines : tie.MeasureT-lines
-μ-lines m rows₀ at₀ rows at = 9 - rows .count
+μ-lines m rows₀ count₀ closed₀ at₀ rows count closed at = mostRows - count
 
-blank-rows-requires : tie.Need-blank-rows-requires Inv-lines μ-lines
-blank-rows-requires c κs = search needs
+blank-row-requires : tie.Need-blank-row-requires Inv-loop μ-loop Inv-lines μ-lines
+blank-row-requires c κs = search needs
 
-lines-holds : tie.Need-lines-holds Inv-lines μ-lines
-lines-holds c = let b = began (c .blank-rows .result) (c .blank-rows .ensures) (c .before .before .args .m .now) in (search needs, b .0, b .1, b .2)
+lines-holds : tie.Need-lines-holds Inv-loop μ-loop Inv-lines μ-lines
+lines-holds c = (rw (c .blank-row .ensures) (begun (c .before .before .args .m .now)), refl)
 
-sub-next-row : tie.Need-sub-next-row Inv-lines μ-lines
-sub-next-row c = search needs
+sub-first-line : tie.Need-sub-first-line Inv-loop μ-loop Inv-lines μ-lines
+sub-first-line c = search needs
 
-part-next-row-start : tie.Need-part-next-row-start Inv-lines μ-lines
-part-next-row-start c = search needs
+part-first-line-start : tie.Need-part-first-line-start Inv-loop μ-loop Inv-lines μ-lines
+part-first-line-start c = search needs
 
-part-next-row-end : tie.Need-part-next-row-end Inv-lines μ-lines
-part-next-row-end c = search needs
+part-first-line-end : tie.Need-part-first-line-end Inv-loop μ-loop Inv-lines μ-lines
+part-first-line-end c = search needs
 
-next-row-requires : tie.Need-next-row-requires Inv-lines μ-lines
-next-row-requires c κs = search needs
+first-line-requires : tie.Need-first-line-requires Inv-loop μ-loop Inv-lines μ-lines
+first-line-requires c κs = search needs
 
-add-at : tie.Need-add-at Inv-lines μ-lines
-add-at c = omega (arith, stays (c .before .before .before .before .before .before .before .args .m .now) (c .before .before .before .before .lines .at) (c .before .before .before .before .lines .rows) (c .before .before .next-row .result) (c .before .before .before .before .lines .inv .1) (c .before .before .next-row .ensures) (c .before .before .before .before .lines .inv .0))
+add-end : tie.Need-add-end Inv-loop μ-loop Inv-lines μ-lines
+add-end c = omega (arith, within (c .before .before .before .lines .inv .0) (c .before .before .if1 .left) (c .first-line .ensures) .0)
 
-lines-less : tie.Need-lines-less Inv-lines μ-lines
-lines-less c = let l = c .before .before .before .before .before .lines in fewer (c .before .before .before .before .before .before .before .before .args .m .now) (l .at) (l .rows) (c .before .before .before .next-row .result) (l .inv .1) (c .before .before .before .next-row .ensures) (l .inv .0) (c .if1 .left) (l .inv .2) (l .inv .3)
+add-at : tie.Need-add-at Inv-loop μ-loop Inv-lines μ-lines
+add-at c = let q = c .before in omega (arith, within (q .before .before .before .lines .inv .0) (q .before .before .if1 .left) (q .first-line .ensures) .1)
 
-lines-again : tie.Need-lines-again Inv-lines μ-lines
-lines-again c = let l = c .before .before .before .before .before .lines in again (c .before .before .before .before .before .before .before .before .args .m .now) (l .at) (l .rows) (c .before .before .before .next-row .result) (l .inv .1) (c .before .before .before .next-row .ensures) (l .inv .0) (c .if1 .left) (l .inv .2) (l .inv .3)
+empty-line-requires : tie.Need-empty-line-requires Inv-loop μ-loop Inv-lines μ-lines
+empty-line-requires c κs = search needs
 
-rows-answer-requires : tie.Need-rows-answer-requires Inv-lines μ-lines
+sub-row-line : tie.Need-sub-row-line Inv-loop μ-loop Inv-lines μ-lines
+sub-row-line c = search needs
+
+part-row-line-start : tie.Need-part-row-line-start Inv-loop μ-loop Inv-lines μ-lines
+part-row-line-start c = search needs
+
+part-row-line-end : tie.Need-part-row-line-end Inv-loop μ-loop Inv-lines μ-lines
+part-row-line-end c = let q = c .before .before .before in omega (arith, within (q .before .before .before .lines .inv .0) (q .before .before .if1 .left) (q .first-line .ensures) .0)
+
+row-line-requires : tie.Need-row-line-requires Inv-loop μ-loop Inv-lines μ-lines
+row-line-requires c κs = search needs
+
+loop-holds : tie.Need-loop-holds Inv-loop μ-loop Inv-lines μ-lines
+loop-holds c = refl
+
+cast-r : tie.Need-cast-r Inv-loop μ-loop Inv-lines μ-lines
+cast-r c = search needs
+
+mul-r : tie.Need-mul-r Inv-loop μ-loop Inv-lines μ-lines
+mul-r c = search needs
+
+array-copy-out-r : tie.Need-array-copy-out-r Inv-loop μ-loop Inv-lines μ-lines
+array-copy-out-r c = search needs
+
+same-runway-requires : tie.Need-same-runway-requires Inv-loop μ-loop Inv-lines μ-lines
+same-runway-requires c κs = search needs
+
+add-k : tie.Need-add-k Inv-loop μ-loop Inv-lines μ-lines
+add-k c = search needs
+
+loop-less : tie.Need-loop-less Inv-loop μ-loop Inv-lines μ-lines
+loop-less c = search needs
+
+loop-again : tie.Need-loop-again Inv-loop μ-loop Inv-lines μ-lines
+loop-again c =
+    let o = c .before .before .before .before in
+    let p = o .before .before .before .before in
+    let l = p .before .before .before .before .before .before .before .before .lines in
+    o .loop .inv ∙ among-miss (l .rows) (l .count) (o .loop .k) (c .before .before .before .loop-test .taken) (omega (arith, size (l .inv .0 .kept))) (p .row-line .result .row) (sym (c .before .same-runway .ensures) ∙ c .if5 .left)
+
+cast-rows : tie.Need-cast-rows Inv-loop μ-loop Inv-lines μ-lines
+cast-rows c = search needs
+
+mul-rows : tie.Need-mul-rows Inv-loop μ-loop Inv-lines μ-lines
+mul-rows c = search needs
+
+array-set-from-rows : tie.Need-array-set-from-rows Inv-loop μ-loop Inv-lines μ-lines
+array-set-from-rows c = search needs
+
+add-count : tie.Need-add-count Inv-loop μ-loop Inv-lines μ-lines
+add-count c = search needs
+
+last-row-requires : tie.Need-last-row-requires Inv-loop μ-loop Inv-lines μ-lines
+last-row-requires c κs = search needs
+
+lines-less : tie.Need-lines-less Inv-loop μ-loop Inv-lines μ-lines
+lines-less c = search needs
+
+lines-again : tie.Need-lines-again Inv-loop μ-loop Inv-lines μ-lines
+lines-again c =
+    let o = c .before .before in
+    let p = o .before .before .before .before in
+    let q = p .before .before .before .before .before in
+    let l = q .before .before .before .lines in (
+      goes-on (l .inv .0) (q .before .before .if1 .left) (q .first-line .ensures) (p .before .before .before .if2 .left) (p .before .before .if3 .left) (p .row-line .ensures)
+          (o .before .before .if4 .left) (o .loop .inv ∙ among-none (p .row-line .result .row) (none-used (l .rows) (l .count) (o .loop .k) (c .before .loop-test .left))) (c .if6 .left),
+      c .if6 .left,
+    )
+
+rows-answer-requires : tie.Need-rows-answer-requires Inv-loop μ-loop Inv-lines μ-lines
 rows-answer-requires c κs = search needs
 
-returns : tie.Need-returns Inv-lines μ-lines
-returns c = let m = c .before .before .before .before .before .before .before .before .before .args .m .now in let l = c .before .before .before .before .before .before .lines in let n = stepped m (l .at) (l .rows) (c .before .before .before .before .next-row .result) (l .inv .1) (c .before .before .before .before .next-row .ensures) (l .inv .0) in subst (RowsHeld m) (sym (c .rows-answer .ensures)) (answer-held m (l .at) (l .rows) (c .before .before .before .before .next-row .result) n (c .before .if1 .taken) (l .inv .2) (l .inv .3))
+-- the loop is left with the first line that does not fit, or behind the last row
+answered : (c : tie.Joined1 Inv-loop μ-loop Inv-lines μ-lines) → RowsHeld (c .before .before .before .before .args .m .now) (rowsAnswer (c .if1 .refusal) (record { count = c .if1 .count; rows = c .if1 .rows }) (c .if1 .closed) (c .if1 .at))
+answered c =
+    let m = c .before .before .before .before .args .m .now in
+    let l = c .before .lines in
+    let s = l .inv .0 in
+    ⊎-elim (λ w. rw (w .5) (refused m 4 refl (missing s (w .0 .taken)) _ _ _))
+    (⊎-elim (λ w. rw (w .6, w .7, w .8 ∙ l .inv .1, w .9, w .10 ∙ w .5 .ensures) (blank-line s (w .0 .left) (w .2 .ensures) (w .4 .taken)))
+    (⊎-elim (λ w. rw (w .10) (refused m 6 refl (ninth s (w .0 .left) (w .2 .ensures) (w .4 .left) (w .5 .taken)) _ _ _))
+    (⊎-elim (λ w. rw (w .14) (refused m 5 refl (stray s (w .0 .left) (w .2 .ensures) (w .4 .left) (w .5 .left) (w .7 .ensures) (w .9 .taken)) _ _ _))
+    (⊎-elim (λ w. rw (w .20) (refused m 7 refl (twice s (w .0 .left) (w .2 .ensures) (w .4 .left) (w .5 .left) (w .7 .ensures) (w .9 .left)
+    (w .11 .inv ∙ among-hit (l .rows) (l .count) (w .11 .k) (w .12 .taken) (omega (arith, size (s .kept))) (w .7 .result .row) (sym (w .14 .ensures) ∙ w .15 .taken))) _ _ _))
+    (λ w. rw (w .15, w .16, w .17 ∙ w .13 .taken, w .18, w .19 ∙ w .14 .ensures) (last-line s (w .0 .left) (w .2 .ensures) (w .4 .left) (w .5 .left) (w .7 .ensures) (w .9 .left)
+    (w .11 .inv ∙ among-none (w .7 .result .row) (none-used (l .rows) (l .count) (w .11 .k) (w .12 .left))) (w .13 .taken))))))) (c .if1 .came)
+
+returns : tie.Need-returns Inv-loop μ-loop Inv-lines μ-lines
+returns c = rw (c .rows-answer .ensures) (answered (c .before))
 
 pub read-rows-spec : {M : Type 1} → statement M
 read-rows-spec =
     tie.close
     (tie.spec
+    Inv-loop
+    μ-loop
     Inv-lines
     μ-lines
-    blank-rows-requires
+    blank-row-requires
     lines-holds
-    sub-next-row
-    part-next-row-start
-    part-next-row-end
-    next-row-requires
+    sub-first-line
+    part-first-line-start
+    part-first-line-end
+    first-line-requires
+    add-end
     add-at
+    empty-line-requires
+    sub-row-line
+    part-row-line-start
+    part-row-line-end
+    row-line-requires
+    loop-holds
+    cast-r
+    mul-r
+    array-copy-out-r
+    same-runway-requires
+    add-k
+    loop-less
+    loop-again
+    cast-rows
+    mul-rows
+    array-set-from-rows
+    add-count
+    last-row-requires
     lines-less
     lines-again
     rows-answer-requires

@@ -1,9 +1,11 @@
-use Rattle.text.specs.Laws.Lines.{front-part}
-use Rattle.body.specs.Held.{rowLine}
-use Rattle.text.specs.Laws.Lines.{closed-some}
-use lib.ListN.{length-take}
+use mathlib.Core.Path.{_≡_, sym, _∙_}
+use mathlib.Core.Logic.{⊎-elim}
 use native.Mathlib.Omega.{arith}
-use mathlib.Core.Path.{sym, _∙_}
+use lib.ListN.{length, take, length-take}
+use lib.Seq.{take-all}
+use Rattle.text.specs.Lines.{opened}
+use Rattle.text.specs.Laws.Lines.{front-part, closed-some}
+use Rattle.body.specs.Held.{rowLine}
 use borrow.Author.Needs.{needs}
 use Rattle.body.proofs.row_line.Statement.{statement}
 use Rattle.body.proofs.row_line.Tie as tie
@@ -11,34 +13,27 @@ use Rattle.body.proofs.row_line.Tie as tie
 is-closed-requires : tie.Need-is-closed-requires
 is-closed-requires c κs = search needs
 
-sub-n : tie.Need-sub-n
-sub-n c = omega (arith, closed-some (c .before .before .before .args .line .now) (sym (c .before .is-closed .ensures) ∙ c .if1 .taken))
+sub-size : tie.Need-sub-size
+sub-size c = omega (arith, closed-some (c .before .before .before .args .line .now) (sym (c .before .is-closed .ensures) ∙ c .if1 .taken))
 
 slice-aggregate-read-row : tie.Need-slice-aggregate-read-row
-slice-aggregate-read-row c = rw length-take (omega arith)
+slice-aggregate-read-row c = ⊎-elim (λ w. rw length-take (omega (arith, w .1))) (λ w. rw length-take (omega (arith, w .1))) (c .before .if1 .came)
 
 read-row-requires : tie.Need-read-row-requires
 read-row-requires c κs = search needs
 
-read-row-requires-2 : tie.Need-read-row-requires-2
-read-row-requires-2 c κs = search needs
+-- what is read is the line without the `)` that closes it
+text-read : (c : tie.Joined1) → take (c .if1 .size) (c .before .before .before .args .line .now) ≡ opened (c .before .before .before .args .line .now)
+text-read c =
+    let l = c .before .before .before .args .line .now in
+    ⊎-elim (λ w. rw (w .1, sym (c .before .is-closed .ensures) ∙ w .0 .taken) (sym (front-part l)))
+    (λ w. rw (w .1, sym (c .before .is-closed .ensures) ∙ w .0 .left) (take-all (length l) l (search needs))) (c .if1 .came)
 
 returns : tie.Need-returns
 unfolding rowLine
-returns c = let l = c .before .before .before .before .before .before .args .line .now in let e = sym (c .before .before .before .before .is-closed .ensures) ∙ c .before .before .before .if1 .taken in rw (e, front-part l, ← (c .before .read-row .ensures))
-
-returns-2 : tie.Need-returns-2
-unfolding rowLine
-returns-2 c = let l = c .before .before .before .before .before .args .line .now in let e = sym (c .before .before .before .is-closed .ensures) ∙ c .before .before .if1 .left in rw (e, ← (c .before .read-row2 .ensures))
+returns c = rw (← (text-read (c .before .before .before)), ← (c .before .before .before .before .is-closed .ensures), ← (c .before .read-row .ensures))
 
 pub row-line-spec : {M : Type 1} → statement M
 row-line-spec =
     tie.close
-    (tie.spec
-    is-closed-requires
-    sub-n
-    slice-aggregate-read-row
-    read-row-requires
-    read-row-requires-2
-    returns
-    returns-2)
+    (tie.spec is-closed-requires sub-size slice-aggregate-read-row read-row-requires returns)

@@ -5,21 +5,17 @@ use borrow.Author.Needs.{needs}
 use Rattle.body.proofs.rows_answer.Statement.{statement}
 use Rattle.body.proofs.rows_answer.Tie as tie
 
--- src/lib.rt:338:9
 no-rows-requires : tie.Need-no-rows-requires
 no-rows-requires c κs = search needs
 
--- src/lib.rt:338:9
 returns : tie.Need-returns
 unfolding rowsAnswer closed
 returns c = simp (← (c .no-rows .ensures)) (search tests)
 
--- src/lib.rt:341:9
 returns-2 : tie.Need-returns-2
 unfolding rowsAnswer closed
 returns-2 c = search tests
 
--- src/lib.rt:334:1
 returns-3 : tie.Need-returns-3
 unfolding rowsAnswer closed
 returns-3 c = search tests

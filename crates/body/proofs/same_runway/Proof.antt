@@ -3,12 +3,10 @@ use Rattle.body.specs.Rows.{sameRunway}
 use Rattle.body.proofs.same_runway.Statement.{statement}
 use Rattle.body.proofs.same_runway.Tie as tie
 
--- src/lib.rt:54:9
 returns : tie.Need-returns
 unfolding sameRunway
 returns c = search tests
 
--- src/lib.rt:50:1
 returns-2 : tie.Need-returns-2
 unfolding sameRunway
 returns-2 c = search tests

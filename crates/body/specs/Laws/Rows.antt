@@ -117,7 +117,8 @@ pub record Back (n : ℕ) (seen : List Row) (ls : List (List ℕ)) (rows : List 
   pub follows : Follows after pss
   pub reads : readRows n seen ls ≡ taken (block (seen ++ rows) after)
 
-row-line : (n : ℕ) (seen : List Row) (k : List ℕ) (ls : List (List ℕ)) → isEmpty k ≡ false
+-- a line that is not empty, read where a row may stand
+pub row-line : (n : ℕ) (seen : List Row) (k : List ℕ) (ls : List (List ℕ)) → isEmpty k ≡ false
     → readRows (suc n) seen (k ∷ ls) ≡ fit 5 (wholeRow (opened k)) (λ r. pick (isAmong r seen) (refuse 7) (pick (closed k) (atEnd ls (block (seen ++ (r ∷ [])) finished)) (readRows n (seen ++ (r ∷ [])) ls)))
 unfolding readRows
 row-line n seen [] ls h = true-false h
