@@ -1,26 +1,27 @@
 -- The readers of an item, step by step: a misfit ends them, and what fits goes on.
 use Prim.Native.Nat.{ℕ, _<_, _≤_}
 use mathlib.Core.Path.{_≡_, refl, sym, _∙_, ap}
-use mathlib.Core.List.{List}
+use mathlib.Core.List.{List, [], _∷_}
 use mathlib.Core.Bool.{Bool, true, false}
 use native.Mathlib.Omega.{arith}
 use lib.ListN.{drop}
 use Rattle.text.specs.Choice.{pick, _and_}
-use Rattle.text.specs.Read.{Got, misfit, got, readText}
+use Rattle.text.specs.Read.{Got, misfit, got, readText, readGap}
 use Rattle.text.specs.Names.{readName}
 use Rattle.text.specs.Numbers.{readDigits, readNumber}
-use Rattle.text.specs.Held.{Held, readWord}
+use Rattle.text.specs.Held.{Held, none, readWord}
 use Rattle.text.specs.Laws.Held.{held-text}
 use Rattle.text.specs.Laws.Numbers.{number-laws, digits-laws}
+use Rattle.text.specs.Laws.Words.{shared}
 use Rattle.text.specs.declared.Found.{Found}
 use Rattle.items.specs.ItemText.{edgeName}
-use Rattle.items.specs.ReadItem.{edges, sayings, saying}
+use Rattle.items.specs.ReadItem.{edges, sayings, saying, taxiSayings, taxiSaying}
 use Rattle.runway.specs.Held.{HeldRunway}
 use Rattle.runway.specs.declared.RunwayFound.{RunwayFound}
 use Rattle.items.specs.declared.Item.{Item}
 use Rattle.awareness.specs.Held.{Reads, HeldItem, noItem}
 use Rattle.awareness.specs.declared.ItemFound.{ItemFound}
-use Rattle.awareness.proofs.Names.{name-low}
+use Rattle.awareness.proofs.Names.{unspaced, name-low}
 
 -- an answer that fits, and one that does not
 module _ {A : Type 0} {m : List ℕ} {g : Got A} {f : Bool} {v : A} {n : ℕ} (h : Reads m g f v n) where
@@ -37,6 +38,23 @@ module _ (t m : List ℕ) (v : ℕ) {k : List ℕ} {r : Found} (h : Held k (read
 
   pub text-off : r .fits ≡ false → readText t m ≡ misfit
   text-off e = held-text t m v h ∙ ap (λ (b : Bool). pick b (got tt (drop (r .next) k)) misfit) e
+
+-- all that is said begins with a gap
+pub sayings-gap : (m : List ℕ) → readName saying sayings m ≡ readGap (readName (unspaced saying) sayings) m
+unfolding readName
+sayings-gap m = shared (32 ∷ []) (unspaced saying) sayings m
+
+pub taxi-sayings-gap : (m : List ℕ) → readName taxiSaying taxiSayings m ≡ readGap (readName (unspaced taxiSaying) taxiSayings) m
+unfolding readName
+taxi-sayings-gap m = shared (32 ∷ []) (unspaced taxiSaying) taxiSayings m
+
+-- so the gap is read once: it does not stand there, or what is read behind it is the answer
+module _ (name : ℕ → List ℕ) (ns m : List ℕ) (e : readName name ns m ≡ readGap (readName (unspaced name) ns) m) {k : List ℕ} {g : Found} (h : Held k (readWord (32 ∷ []) 0 m) g) where
+  pub no-gap : g .fits ≡ false → Held k (readName name ns m) none
+  no-gap x = record { within = omega arith; says = e ∙ rw (text-off (32 ∷ []) m 0 h x); blank = refl }
+
+  pub behind-gap : {r : Found} → g .fits ≡ true → Held k (readName (unspaced name) ns (drop (g .next) k)) r → Held k (readName name ns m) r
+  behind-gap x o = record { within = o .within; says = e ∙ rw (text-there (32 ∷ []) m 0 h x) (o .says); blank = o .blank }
 
 -- what is read fits its field
 pub number-low : (m : List ℕ) {v : ℕ} {r : List ℕ} → readNumber 3 m ≡ got v r → v < 10000

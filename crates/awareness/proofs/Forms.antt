@@ -2,7 +2,7 @@
 use Prim.Native.Nat.{ℕ, _≤_}
 use mathlib.Core.Path.{_≡_, refl, sym, _∙_, ap}
 use mathlib.Core.List.{List, [], _∷_}
-use mathlib.Core.Bool.{not}
+use mathlib.Core.Bool.{Bool, true, false, not}
 use native.Mathlib.Omega.{arith}
 use lib.ListN.{length, drop, replicate}
 use borrow.Author.Tests.{leb-true}
@@ -10,14 +10,18 @@ use Rattle.text.specs.Choice.{pick, _and_, isEmpty}
 use Rattle.text.specs.Piece.{bytes}
 use Rattle.text.specs.Read.{Got, misfit, got, guard, andThen, readText, readAs, readGap, readBefore}
 use Rattle.text.specs.Names.{readName}
+use Rattle.text.specs.Held.{Held, readWord}
 use Rattle.text.specs.Laws.Base.{and-2, then-got, carry}
+use Rattle.text.specs.declared.Found.{Found}
 use Rattle.items.specs.declared.Item.{Item}
 use Rattle.items.specs.Item.{validItem}
 use Rattle.items.specs.ReadItem.{taxiSayings, taxiSaying, taxiItem, readSomeTaxiways, readTaxiways, readTaxiForm, isApron, readApron, apronItem, readApronForm, openings, openingName, readBareForm, readForm, readBody, readItem}
 use Rattle.awareness.specs.Held.{HeldItem, noItem}
 use Rattle.awareness.specs.Named.{inSlots, bareFound}
 use Rattle.awareness.specs.declared.ItemFound.{ItemFound}
+use Rattle.awareness.specs.Laws.Held.{item-of, misfit-of}
 use Rattle.awareness.proofs.Names.{name-low}
+use Rattle.awareness.proofs.Details.{text-there, text-off}
 use Rattle.awareness.proofs.Named.{gap-before, name-passed}
 
 -- behind TWY: taxiways that are in their slots, and what is said of them
@@ -93,7 +97,7 @@ held-bare {m} l i {r} h e = record {
   blank = e ∙ sym (ap (λ (q : ItemFound). pick (q .fits) q noItem) e);
 }
 
--- an item without its full stop, and with it
+-- an item without its full stop
 module _ (m : List ℕ) where
   pub no-opening : readName openingName openings m ≡ misfit → readBody m ≡ misfit
   unfolding readBody
@@ -107,15 +111,24 @@ module _ (m : List ℕ) where
       go misfit = refl
       go (got i r) = refl
 
-  pub no-body : readBody m ≡ misfit → readItem m ≡ misfit
+-- the answers that the code has of an item: what stands before its full stop, the stop, and whether it is valid
+module _ {l : List ℕ} (at : ℕ) {b : ItemFound} (h : HeldItem l (readBody (drop at l)) b) where
+  pub no-body : b .fits ≡ false → readItem (drop at l) ≡ misfit
   unfolding readItem
-  no-body e = rw e
+  no-body x = rw (misfit-of b h x)
 
-  module _ {i : Item} {k : List ℕ} (e : readBody m ≡ got i k) where
-    pub no-stop : readText (bytes ".") k ≡ misfit → readItem m ≡ misfit
+  module _ (x : b .fits ≡ true) {w : Found} (s : Held l (readWord (bytes ".") 0 (drop (b .next) l)) w) where
+    pub no-stop : w .fits ≡ false → readItem (drop at l) ≡ misfit
     unfolding readItem
-    no-stop q = rw (e, q)
+    no-stop y = rw (item-of b h x, text-off (bytes ".") (drop (b .next) l) 0 s y)
 
-    pub stopped : {r : List ℕ} → readText (bytes ".") k ≡ got tt r → readItem m ≡ guard (validItem i) (got i r)
-    unfolding readItem
-    stopped q = rw (e, q)
+    module _ (y : w .fits ≡ true) {t : Bool} (e : t ≡ validItem (b .item)) where
+      stopped : readItem (drop at l) ≡ guard t (got (b .item) (drop (w .next) l))
+      unfolding readItem
+      stopped = rw (item-of b h x, text-there (bytes ".") (drop (b .next) l) 0 s y, e)
+
+      pub invalid : t ≡ false → readItem (drop at l) ≡ misfit
+      invalid z = stopped ∙ rw z
+
+      pub valid : t ≡ true → readItem (drop at l) ≡ got (b .item) (drop (w .next) l)
+      valid z = stopped ∙ rw z

@@ -17,8 +17,7 @@ use Rattle.items.specs.declared.Item.{Item}
 use Rattle.items.specs.ReadItem.{readItem, readBody}
 use Rattle.items.specs.Awareness.{inOrder, standsBehind, mostItems, blankItem, readAwareness, wholeAwareness}
 use Rattle.items.specs.Laws.Order.{order-on, order-off}
-use Rattle.awareness.specs.declared.ItemFound.{ItemFound}
-use Rattle.awareness.specs.Held.{HeldItem, itemsAnswer}
+use Rattle.awareness.specs.Held.{itemsAnswer}
 
 -- up to n items more: the first of them stands at the front of k, and where it does not, m is left
 abbrev moreItems : ℕ → List ℕ → List ℕ → Got (List Item)
@@ -114,35 +113,35 @@ module _ {l : List ℕ} {items : List Item} {count behind at : ℕ} (s : SoFar l
     pub full : mostItems ≤ count → wholeAwareness l ≡ misfit
     full f = let z : mostItems - count ≡ 0 = omega arith in s .left ∙ rw (z, next-byte) (some-left is _ _ (s .order))
 
-    module _ (f : count < mostItems) (r : ItemFound) (g : HeldItem l (readItem (drop at l)) r) where
+    module _ (f : count < mostItems) where
       room : mostItems - count ≡ suc (mostItems - (count + 1))
       room = omega arith
 
       -- no item stands there
-      pub stray : r .fits ≡ false → wholeAwareness l ≡ misfit
-      stray x = s .left ∙ rw (room, g .says, x, next-byte) (some-left is _ _ (s .order))
+      pub stray : readItem (drop at l) ≡ misfit → wholeAwareness l ≡ misfit
+      stray e = s .left ∙ rw (room, e, next-byte) (some-left is _ _ (s .order))
 
-      module _ (x : r .fits ≡ true) where
+      module _ {i : Item} (n : ℕ) (e : readItem (drop at l) ≡ got i (drop n l)) where
         abbrev rest : Got (List Item)
-        rest = readMany (readLoose readItem) (mostItems - (count + 1)) (drop (r .next) l)
+        rest = readMany (readLoose readItem) (mostItems - (count + 1)) (drop n l)
 
-        one-more : wholeAwareness l ≡ wholeWith is (andThen rest (λ js k. got (r .item ∷ js) k))
-        one-more = let e : readItem (drop at l) ≡ got (r .item) (drop (r .next) l) = g .says ∙ rw x in s .left ∙ rw (room, e)
+        one-more : wholeAwareness l ≡ wholeWith is (andThen rest (λ js k. got (i ∷ js) k))
+        one-more = s .left ∙ rw (room, e)
 
         -- one that may not follow those before it
-        pub misplaced : standsBehind is (r .item) ≡ false → wholeAwareness l ≡ misfit
-        misplaced b = one-more ∙ one-refused is (r .item) rest b
+        pub misplaced : standsBehind is i ≡ false → wholeAwareness l ≡ misfit
+        misplaced b = one-more ∙ one-refused is i rest b
 
         -- one that may
-        pub goes-on : {start : ℕ} → standsBehind is (r .item) ≡ true → Reached l (skip (drop (r .next) l)) start → SoFar l (set items count (r .item)) (count + 1) (r .next) start
+        pub goes-on : {start : ℕ} → standsBehind is i ≡ true → Reached l (skip (drop n l)) start → SoFar l (set items count i) (count + 1) n start
         goes-on b z =
             let here : count < length items = omega (arith, size) in
-            let one : take (count + 1) (set items count (r .item)) ≡ is ++ (r .item ∷ []) = rw add-one (take-suc-set items count (r .item) here) in
+            let one : take (count + 1) (set items count i) ≡ is ++ (i ∷ []) = rw add-one (take-suc-set items count i here) in
             record {
               few = omega arith;
-              kept = ap (λ (xs : List Item). set xs count (r .item)) (s .kept) ∙ ap (λ (n : ℕ). set (pad mostItems blankItem is) n (r .item)) (sym counted)
-                  ∙ pad-more mostItems blankItem is (r .item) (omega (arith, counted)) ∙ ap (pad mostItems blankItem) (sym one);
-              order = rw one (order-on (r .item) is (s .order) b);
+              kept = ap (λ (xs : List Item). set xs count i) (s .kept) ∙ ap (λ (n : ℕ). set (pad mostItems blankItem is) n i) (sym counted)
+                  ∙ pad-more mostItems blankItem is i (omega (arith, counted)) ∙ ap (pad mostItems blankItem) (sym one);
+              order = rw one (order-on i is (s .order) b);
               ended = λ e. z .left ∙ ap skip e ∙ skip-stops [] refl;
-              left = one-more ∙ one-kept is (r .item) rest ∙ rw (one, z .left) (ap (wholeWith (is ++ (r .item ∷ []))) (more-next (mostItems - (count + 1)) (drop (r .next) l)));
+              left = one-more ∙ one-kept is i rest ∙ rw (one, z .left) (ap (wholeWith (is ++ (i ∷ []))) (more-next (mostItems - (count + 1)) (drop n l)));
             }

@@ -53,18 +53,27 @@ unnamed e = record { ordered = omega arith; within = omega arith; says = e; blan
 
 -- the name behind a gap, held against a test
 module _ (p : List ℕ → Bool) (m k : List ℕ) {r : Span} (h : Spanned m (readGap (readRun isName) k) r) where
+  pub no-name : r .fits ≡ false → readGap (readIf p (readRun isName)) k ≡ misfit
+  no-name e = gap-if (readRun isName) k p ∙ rw (name-off h e)
+
   pub none-named : r .fits ≡ false → Spanned m (readGap (readIf p (readRun isName)) k) noSpan
-  none-named e = unnamed (gap-if (readRun isName) k p ∙ rw (name-off h e))
+  none-named e = unnamed (no-name e)
 
   module _ (f : r .fits ≡ true) {t : Bool} (e : t ≡ p (take (r .next - r .start) (drop (r .start) m))) where
     tested : readGap (readIf p (readRun isName)) k ≡ guard t (got (take (r .next - r .start) (drop (r .start) m)) (drop (r .next) m))
     tested = gap-if (readRun isName) k p ∙ rw (name-there h f, e)
 
+    pub right-name : t ≡ true → readGap (readIf p (readRun isName)) k ≡ got (take (r .next - r .start) (drop (r .start) m)) (drop (r .next) m)
+    right-name u = tested ∙ rw u
+
+    pub wrong-name : t ≡ false → readGap (readIf p (readRun isName)) k ≡ misfit
+    wrong-name u = tested ∙ rw u
+
     pub name-passes : t ≡ true → Spanned m (readGap (readIf p (readRun isName)) k) r
-    name-passes u = record { ordered = h .ordered; within = h .within; says = tested ∙ rw (u, f); blank = h .blank }
+    name-passes u = record { ordered = h .ordered; within = h .within; says = right-name u ∙ rw f; blank = h .blank }
 
     pub name-fails : t ≡ false → Spanned m (readGap (readIf p (readRun isName)) k) noSpan
-    name-fails u = unnamed (tested ∙ rw u)
+    name-fails u = unnamed (wrong-name u)
 
 -- what is known of a name that was read
 module _ (m : List ℕ) {w r : List ℕ} where

@@ -4,6 +4,7 @@ use mathlib.Core.Path.{_≡_, refl, _∙_}
 use mathlib.Core.List.{List, [], _∷_}
 use mathlib.Core.Bool.{true, false}
 use lib.Dec.{leb}
+use lib.ListN.{drop}
 use borrow.Author.Tests.{leb-true}
 use Rattle.text.specs.Choice.{all}
 use Rattle.text.specs.Read.{Got, misfit, got, orElse, andThen, readText}
@@ -12,6 +13,10 @@ use Rattle.text.specs.Held.{Held, readWord}
 use Rattle.text.specs.Laws.Base.{no-misfit, carry, and-1, and-2}
 use Rattle.text.specs.Laws.Held.{got-of, misfit-of}
 use Rattle.text.specs.declared.Found.{Found}
+
+-- names that all begin with a space, without it
+abbrev pub unspaced : (ℕ → List ℕ) → ℕ → List ℕ
+unspaced name n = drop 1 (name n)
 
 else-none : {A : Type 0} (g : Got A) → orElse g misfit ≡ g
 else-none misfit = refl

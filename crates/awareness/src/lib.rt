@@ -14,7 +14,7 @@ ghost use Rattle.text.specs.Read.{readAs, readGap, misfit};
 ghost use Rattle.items.specs.Awareness.{wholeAwareness};
 ghost use Rattle.items.specs.Item.{isTaxiway};
 ghost use Rattle.items.specs.ItemText.{edgeName};
-ghost use Rattle.items.specs.ReadItem.{openings, openingName, sayings, saying, taxiSayings, taxiSaying, edges, readLength, readBank, readDetail, readRunwayForm, runwayItem, readTaxiway, readSomeTaxiways, readTaxiForm, isApron, readApron, apronItem, readApronForm, readForm, readBody, readItem};
+ghost use Rattle.items.specs.ReadItem.{openings, openingName, sayings, saying, taxiSayings, taxiSaying, edges, readLength, readBank, readDetail, readRunwayForm, runwayItem, readTaxiway, readSomeTaxiways, readTaxiForm, isApron, apronItem, readApronForm, readForm, readBody};
 ghost use Rattle.awareness.specs.Held.{Reads, HeldDetail, HeldItem, noItem, itemsAnswer};
 ghost use Rattle.awareness.specs.Named.{inSlots, bareFound};
 use items::Item;
@@ -26,6 +26,7 @@ use text::CAPITALS_AND_DIGITS;
 use text::Found;
 use text::LETTERS;
 use text::NO_SPAN;
+use text::NONE;
 use text::Span;
 use text::digits;
 use text::place;
@@ -124,34 +125,44 @@ fn opening(s: &[u8], i: usize) -> Found
 fn saying(s: &[u8], i: usize) -> Found
     ensures { λ r. ⌜ Held (now (s .entry)) (readName saying sayings (drop i (now (s .entry)))) r ⌝ }
 {
-    let a = word(s, i, b" REDUCED TO", b'I' as u32);
+    let gap = word(s, i, b" ", 0);
+    if !gap.fits {
+        return NONE;
+    }
+    let next = gap.next;
+    let a = word(s, next, b"REDUCED TO", b'I' as u32);
     if a.fits {
         return a;
     }
-    let b = word(s, i, b" LOOSE SAND", b'K' as u32);
+    let b = word(s, next, b"LOOSE SAND", b'K' as u32);
     if b.fits {
         return b;
     }
-    let c = word(s, i, b" CHEMICALLY TREATED", b'L' as u32);
+    let c = word(s, next, b"CHEMICALLY TREATED", b'L' as u32);
     if c.fits {
         return c;
     }
-    let d = word(s, i, b" SNOWBANK", b'M' as u32);
+    let d = word(s, next, b"SNOWBANK", b'M' as u32);
     if d.fits {
         return d;
     }
-    word(s, i, b" ADJ SNOWBANK", b'O' as u32)
+    word(s, next, b"ADJ SNOWBANK", b'O' as u32)
 }
 
 // What is said of taxiways.
 fn taxi_saying(s: &[u8], i: usize) -> Found
     ensures { λ r. ⌜ Held (now (s .entry)) (readName taxiSaying taxiSayings (drop i (now (s .entry)))) r ⌝ }
 {
-    let a = word(s, i, b" SNOWBANK", b'N' as u32);
+    let gap = word(s, i, b" ", 0);
+    if !gap.fits {
+        return NONE;
+    }
+    let next = gap.next;
+    let a = word(s, next, b"SNOWBANK", b'N' as u32);
     if a.fits {
         return a;
     }
-    word(s, i, b" POOR", b'P' as u32)
+    word(s, next, b"POOR", b'P' as u32)
 }
 
 // LR is tried before L.
@@ -415,23 +426,6 @@ fn is_apron(name: &[u8]) -> bool
     name.len() <= APRON_SIZE
 }
 
-// The apron's name behind a gap.
-fn apron(s: &[u8], i: usize) -> Span
-    ensures { λ r. ⌜ Spanned (now (s .entry)) (readGap readApron (drop i (now (s .entry)))) r ⌝ }
-{
-    let name = gap_name(s, i);
-    if !name.fits {
-        return NO_SPAN;
-    }
-    let start = name.start;
-    let next = name.next;
-    if is_apron(&s[start..next]) {
-        name
-    } else {
-        NO_SPAN
-    }
-}
-
 // The item of one apron, zeros behind its name.
 fn apron_item(name: &[u8]) -> Item
     requires { ⌜ length (now name) ≤ 16 ⌝ }
@@ -449,12 +443,15 @@ fn apron_item(name: &[u8]) -> Item
 fn read_apron_item(s: &[u8], i: usize) -> ItemFound
     ensures { λ r. ⌜ HeldItem (now (s .entry)) (readApronForm (drop i (now (s .entry)))) r ⌝ }
 {
-    let name = apron(s, i);
+    let name = gap_name(s, i);
     if !name.fits {
         return no_item();
     }
     let start = name.start;
     let next = name.next;
+    if !is_apron(&s[start..next]) {
+        return no_item();
+    }
     let w = word(s, next, b" POOR", 0);
     if !w.fits {
         return no_item();
@@ -503,30 +500,6 @@ fn read_body(s: &[u8], i: usize) -> ItemFound
     read_form(o.value, s, o.next)
 }
 
-// An item, ended by a full stop.
-fn read_item(s: &[u8], i: usize) -> ItemFound
-    ensures { λ r. ⌜ HeldItem (now (s .entry)) (readItem (drop i (now (s .entry)))) r ⌝ }
-{
-    let b = read_body(s, i);
-    if !b.fits {
-        return no_item();
-    }
-    let w = word(s, b.next, b".", 0);
-    if !w.fits {
-        return no_item();
-    }
-    let item = b.item;
-    if valid_item(item) {
-        ItemFound {
-            fits: true,
-            item,
-            next: w.next,
-        }
-    } else {
-        no_item()
-    }
-}
-
 // ---- Reading a line
 
 fn no_items() -> ItemsRead
@@ -544,8 +517,8 @@ fn no_items() -> ItemsRead
 pub fn read_awareness(line: &[u8]) -> ItemsRead
     ensures { λ r. ⌜ r ≡ itemsAnswer (wholeAwareness (now (line .entry))) ⌝ }
 {
-    let none = no_items();
-    let mut items = none.items;
+    let blank = blank_item();
+    let mut items = [blank; 32];
     let mut count: u8 = 0;
     let mut behind: usize = 0;
     let mut at: usize = 0;
@@ -556,23 +529,33 @@ pub fn read_awareness(line: &[u8]) -> ItemsRead
         if MOST_ITEMS <= count {
             break 'items false;
         }
-        let found = read_item(line, at);
+        let found = read_body(line, at);
         if !found.fits {
             break 'items false;
         }
+        let stop = word(line, found.next, b".", 0);
+        if !stop.fits {
+            break 'items false;
+        }
         let item = found.item;
-        // in place, since a call would copy the array for each item
-        let mut k: u8 = 0;
-        while k < count {
-            let a = items[k as usize];
+        if !valid_item(item) {
+            break 'items false;
+        }
+        // from the last one back, up to one of a lower letter; in place, since a call would copy the array for each item
+        let mut k = count;
+        while 0 < k {
+            let a = items[(k - 1) as usize];
+            if a.letter < item.letter {
+                break;
+            }
             if !may_follow(a, item) {
                 break 'items false;
             }
-            k += 1;
+            k -= 1;
         }
         items[count as usize] = item;
         count += 1;
-        behind = found.next;
+        behind = stop.next;
         at = spaces(line, behind);
     };
     if fits {
@@ -582,5 +565,5 @@ pub fn read_awareness(line: &[u8]) -> ItemsRead
             items,
         };
     }
-    none
+    no_items()
 }

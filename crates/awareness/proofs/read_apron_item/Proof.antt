@@ -4,24 +4,51 @@ use borrow.Author.Tests.{not-true, not-false}
 use Rattle.text.specs.Piece.{bytes}
 use Rattle.text.specs.Read.{got}
 use Rattle.items.specs.declared.Item.{Item}
+use Rattle.items.specs.ReadItem.{isApron, readApron}
 use Rattle.awareness.proofs.Details.{text-there, text-off, unread}
-use Rattle.awareness.proofs.Named.{name-there, name-off}
+use Rattle.awareness.proofs.Named.{no-name, right-name, wrong-name}
 use Rattle.awareness.proofs.Forms.{no-apron, apron-unsaid, apron-said, short-apron}
 use borrow.Author.Needs.{needs}
 use Rattle.awareness.proofs.read_apron_item.Statement.{statement}
 use Rattle.awareness.proofs.read_apron_item.Tie as tie
 
-apron-requires : tie.Need-apron-requires
-apron-requires c κs = search needs
+gap-name-requires : tie.Need-gap-name-requires
+gap-name-requires c κs = search needs
 
 no-item-requires : tie.Need-no-item-requires
 no-item-requires c κs = search needs
 
 returns : tie.Need-returns
+unfolding readApron
 returns c =
     let b3 = c .before .before .before in
     let a = b3 .before .before .args in
-    unread (c .no-item .ensures) (no-apron (drop (a .i) (a .s .now)) (name-off (b3 .apron .ensures) (not-true _ (c .before .if1 .taken))))
+    let m = drop (a .i) (a .s .now) in
+    unread (c .no-item .ensures) (no-apron m (no-name isApron (a .s .now) m (b3 .gap-name .ensures) (not-true _ (c .before .if1 .taken))))
+
+sub-is-apron : tie.Need-sub-is-apron
+sub-is-apron c = search needs
+
+part-is-apron-start : tie.Need-part-is-apron-start
+part-is-apron-start c = search needs
+
+part-is-apron-end : tie.Need-part-is-apron-end
+part-is-apron-end c = search needs
+
+is-apron-requires : tie.Need-is-apron-requires
+is-apron-requires c κs = search needs
+
+no-item-requires-2 : tie.Need-no-item-requires-2
+no-item-requires-2 c κs = search needs
+
+returns-2 : tie.Need-returns-2
+unfolding readApron
+returns-2 c =
+    let b4 = c .before .before .before .before in
+    let b6 = b4 .before .before in
+    let a = b6 .before .before .args in
+    let m = drop (a .i) (a .s .now) in
+    unread (c .no-item2 .ensures) (no-apron m (wrong-name isApron (a .s .now) m (b6 .gap-name .ensures) (not-false _ (b4 .if1 .left)) (c .before .before .is-apron .ensures) (not-true _ (c .before .if2 .taken))))
 
 slice-aggregate-word : tie.Need-slice-aggregate-word
 slice-aggregate-word c = search needs
@@ -29,17 +56,21 @@ slice-aggregate-word c = search needs
 word-requires : tie.Need-word-requires
 word-requires c κs = search needs
 
-no-item-requires-2 : tie.Need-no-item-requires-2
-no-item-requires-2 c κs = search needs
+no-item-requires-3 : tie.Need-no-item-requires-3
+no-item-requires-3 c κs = search needs
 
-returns-2 : tie.Need-returns-2
-returns-2 c =
+returns-3 : tie.Need-returns-3
+unfolding readApron
+returns-3 c =
     let b3 = c .before .before .before in
     let b5 = b3 .before .before in
-    let n = b5 .before .before .apron in
-    let a = b5 .before .before .before .before .args in
-    let m = a .s .now in
-    unread (c .no-item2 .ensures) (apron-unsaid (drop (a .i) m) (name-there (n .ensures) (not-false _ (b5 .if1 .left))) (text-off (bytes " POOR") (drop (n .result .next) m) 0 (b3 .word .ensures) (not-true _ (c .before .if2 .taken))))
+    let b8 = b5 .before .before .before in
+    let n = b8 .before .before .gap-name in
+    let a = b8 .before .before .before .before .args in
+    let s = a .s .now in
+    let m = drop (a .i) s in
+    unread (c .no-item3 .ensures) (apron-unsaid m (right-name isApron s m (n .ensures) (not-false _ (b8 .if1 .left)) (b5 .before .is-apron .ensures) (not-false _ (b5 .if2 .left)))
+    (text-off (bytes " POOR") (drop (n .result .next) s) 0 (b3 .word .ensures) (not-true _ (c .before .if3 .taken))))
 
 sub-apron-item : tie.Need-sub-apron-item
 sub-apron-item c = search needs
@@ -51,22 +82,29 @@ part-apron-item-end : tie.Need-part-apron-item-end
 part-apron-item-end c = search needs
 
 apron-item-requires : tie.Need-apron-item-requires
+unfolding readApron
 apron-item-requires c κs =
     let b5 = c .before .before .before .before .before in
-    let a = b5 .before .before .before .before .args in
-    short-apron (drop (a .i) (a .s .now)) (name-there (b5 .before .before .apron .ensures) (not-false _ (b5 .if1 .left)))
+    let b8 = b5 .before .before .before in
+    let a = b8 .before .before .before .before .args in
+    let m = drop (a .i) (a .s .now) in
+    short-apron m (right-name isApron (a .s .now) m (b8 .before .before .gap-name .ensures) (not-false _ (b8 .if1 .left)) (b5 .before .is-apron .ensures) (not-false _ (b5 .if2 .left)))
 
-returns-3 : tie.Need-returns-3
-returns-3 c =
+returns-4 : tie.Need-returns-4
+unfolding readApron
+returns-4 c =
     let b4 = c .before .before .before .before in
     let b6 = b4 .before .before in
-    let n = b6 .before .before .apron in
-    let a = b6 .before .before .before .before .args in
-    let m = a .s .now in
+    let b9 = b6 .before .before .before in
+    let n = b9 .before .before .gap-name in
+    let a = b9 .before .before .before .before .args in
+    let s = a .s .now in
+    let m = drop (a .i) s in
     record {
       within = b4 .word .ensures .within;
-      says = apron-said (drop (a .i) m) (name-there (n .ensures) (not-false _ (b6 .if1 .left))) (text-there (bytes " POOR") (drop (n .result .next) m) 0 (b4 .word .ensures) (not-false _ (c .before .before .if2 .left)))
-          ∙ ap (λ (i : Item). got i (drop (b4 .word .result .next) m)) (sym (c .apron-item .ensures));
+      says = apron-said m (right-name isApron s m (n .ensures) (not-false _ (b9 .if1 .left)) (b6 .before .is-apron .ensures) (not-false _ (b6 .if2 .left)))
+          (text-there (bytes " POOR") (drop (n .result .next) s) 0 (b4 .word .ensures) (not-false _ (c .before .before .if3 .left)))
+          ∙ ap (λ (i : Item). got i (drop (b4 .word .result .next) s)) (sym (c .apron-item .ensures));
       blank = refl;
     }
 
@@ -74,15 +112,21 @@ pub read-apron-item-spec : {M : Type 1} → statement M
 read-apron-item-spec =
     tie.close
     (tie.spec
-    apron-requires
+    gap-name-requires
     no-item-requires
     returns
-    slice-aggregate-word
-    word-requires
+    sub-is-apron
+    part-is-apron-start
+    part-is-apron-end
+    is-apron-requires
     no-item-requires-2
     returns-2
+    slice-aggregate-word
+    word-requires
+    no-item-requires-3
+    returns-3
     sub-apron-item
     part-apron-item-start
     part-apron-item-end
     apron-item-requires
-    returns-3)
+    returns-4)

@@ -1,45 +1,58 @@
 -- The outer loop's invariant: the items so far and what is read from here on are what the whole line is. The inner loop's:
--- the item may stand behind those so far just where it may behind those from the k-th on.
-use Prim.Native.Nat.{_-_}
+-- the item may stand behind those so far just where it may behind the first k of them.
+use Prim.Native.Nat.{_-_, _≤_}
 use mathlib.Core.Path.{_≡_, refl, sym, _∙_, ap}
 use mathlib.Core.Bool.{true}
 use mathlib.Core.Logic.{⊎-elim}
-use lib.ListN.{take, drop}
+use lib.ListN.{take}
 use native.Mathlib.Omega.{arith}
 use borrow.Author.Tests.{not-true, not-false}
 use Rattle.text.specs.Choice.{pick}
 use Rattle.text.specs.Read.{misfit}
 use Rattle.items.specs.Awareness.{standsBehind, mostItems, wholeAwareness}
-use Rattle.items.specs.Laws.Order.{behind-all, behind-one, not-behind}
 use Rattle.awareness.specs.Held.{itemsAnswer}
+use Rattle.awareness.proofs.Forms.{no-body, no-stop, invalid, valid}
+use Rattle.awareness.proofs.Back.{back-on, back-off, back-lower}
 use Rattle.awareness.proofs.LineReading.{SoFar, begun, size, ends, full, stray, misplaced, goes-on}
 use borrow.Author.Needs.{needs}
 use Rattle.awareness.proofs.read_awareness.Statement.{statement}
 use Rattle.awareness.proofs.read_awareness.Tie as tie
 
 abbrev Inv-loop : tie.InvT-loop
-Inv-loop line none items count behind at found item k₀ k = standsBehind (take count items) item ≡ standsBehind (drop k (take count items)) item
+Inv-loop line items count behind at stop item k₀ t13 k = (k ≤ count) × (standsBehind (take count items) item ≡ standsBehind (take k items) item)
 
 abbrev μ-loop : tie.MeasureT-loop
-μ-loop line none items count behind at found item k₀ k = count - k
+μ-loop line items count behind at stop item k₀ t13 k = k
 
 abbrev Inv-items : tie.InvT-items
-Inv-items line none items₀ count₀ behind₀ at₀ items count behind at = SoFar line items count behind at
+Inv-items line items₀ count₀ behind₀ at₀ t13 items count behind at = SoFar line items count behind at
 
 abbrev μ-items : tie.MeasureT-items
-μ-items line none items₀ count₀ behind₀ at₀ items count behind at = mostItems - count
+μ-items line items₀ count₀ behind₀ at₀ t13 items count behind at = mostItems - count
 
-no-items-requires : tie.Need-no-items-requires Inv-loop μ-loop Inv-items μ-items
-no-items-requires c κs = search needs
+blank-item-requires : tie.Need-blank-item-requires Inv-loop μ-loop Inv-items μ-items
+blank-item-requires c κs = search needs
 
 items-holds : tie.Need-items-holds Inv-loop μ-loop Inv-items μ-items
-items-holds c = rw (c .before .no-items .ensures) (begun (c .before .before .before .args .line .now))
+items-holds c = rw (c .blank-item .ensures) (begun (c .before .before .args .line .now))
 
-read-item-requires : tie.Need-read-item-requires Inv-loop μ-loop Inv-items μ-items
-read-item-requires c κs = search needs
+read-body-requires : tie.Need-read-body-requires Inv-loop μ-loop Inv-items μ-items
+read-body-requires c κs = search needs
+
+slice-aggregate-word : tie.Need-slice-aggregate-word Inv-loop μ-loop Inv-items μ-items
+slice-aggregate-word c = search needs
+
+word-requires : tie.Need-word-requires Inv-loop μ-loop Inv-items μ-items
+word-requires c κs = search needs
+
+valid-item-requires : tie.Need-valid-item-requires Inv-loop μ-loop Inv-items μ-items
+valid-item-requires c κs = search needs
 
 loop-holds : tie.Need-loop-holds Inv-loop μ-loop Inv-items μ-items
-loop-holds c = refl
+loop-holds c = (search needs, refl)
+
+sub-a : tie.Need-sub-a Inv-loop μ-loop Inv-items μ-items
+sub-a c = search needs
 
 cast-a : tie.Need-cast-a Inv-loop μ-loop Inv-items μ-items
 cast-a c = search needs
@@ -53,18 +66,21 @@ array-copy-out-a c = search needs
 may-follow-requires : tie.Need-may-follow-requires Inv-loop μ-loop Inv-items μ-items
 may-follow-requires c κs = search needs
 
-add-k : tie.Need-add-k Inv-loop μ-loop Inv-items μ-items
-add-k c = search needs
+sub-k : tie.Need-sub-k Inv-loop μ-loop Inv-items μ-items
+sub-k c = search needs
 
 loop-less : tie.Need-loop-less Inv-loop μ-loop Inv-items μ-items
 loop-less c = search needs
 
 loop-again : tie.Need-loop-again Inv-loop μ-loop Inv-items μ-items
 loop-again c =
-    let o = c .before .before .before .before in
-    let p = o .before .before .before .before in
-    let l = p .before .before .before .items in
-    o .loop .inv ∙ behind-one (l .items) (l .count) (p .read-item .result .item) (o .loop .k) _ (c .before .before .before .loop-test .taken) (omega (arith, size (l .inv))) (sym (c .before .may-follow .ensures) ∙ not-false (c .before .may-follow .result) (c .if4 .left))
+    let b6 = c .before .before .before .before .before .before in
+    let q = b6 .before in
+    let e3 = q .before .before .before .before .before .before .before .before in
+    let l = e3 .before .before .before .before .before .items in (
+      omega arith,
+      q .loop .inv .1 ∙ back-on (l .items) (q .loop .k) (e3 .before .before .read-body .result .item) _ (b6 .loop-test .taken) (omega (arith, size (l .inv))) (sym (c .before .may-follow .ensures) ∙ not-false _ (c .if7 .left)),
+    )
 
 cast-items : tie.Need-cast-items Inv-loop μ-loop Inv-items μ-items
 cast-items c = search needs
@@ -86,29 +102,46 @@ items-less c = search needs
 
 items-again : tie.Need-items-again Inv-loop μ-loop Inv-items μ-items
 items-again c =
-    let o = c .before .before in
-    let p = o .before .before .before .before in
-    let l = p .before .before .before .items in
-    let r = p .read-item in
-    goes-on (l .inv) (p .before .before .if1 .left) (p .before .if2 .left) (r .result) (r .ensures) (not-false (r .result .fits) (o .before .before .if3 .left))
-    (o .loop .inv ∙ behind-all (l .items) (l .count) (r .result .item) (o .loop .k) (c .before .loop-test .left)) (c .spaces .ensures)
+    let o = c .before in
+    let q = o .before in
+    let e5 = q .before in
+    let e4 = e5 .before .before .before in
+    let w = e4 .before .before .word in
+    let e3 = e4 .before .before .before .before in
+    let r = e3 .before .before .read-body in
+    let e2 = e3 .before .before .before in
+    let l = e2 .before .before .items in
+    let k = q .loop .k in
+    let none : k ≤ 0 → standsBehind (take k (l .items)) (r .result .item) ≡ true = λ h. let z : k ≡ 0 = omega arith in rw z in
+    goes-on (l .inv) (e2 .before .if1 .left) (e2 .if2 .left) (w .result .next)
+    (valid (l .at) (r .ensures) (not-false _ (e3 .if3 .left)) (w .ensures) (not-false _ (e4 .if4 .left)) (e5 .before .valid-item .ensures) (not-false _ (e5 .if5 .left)))
+    (q .loop .inv .1 ∙ ⊎-elim (λ x. none (x .left))
+    (λ x. back-lower (l .items) k (r .result .item) _ (x .0 .taken) (omega (arith, size (l .inv))) (q .loop .inv .0) (l .inv .order) (x .4 .taken)) (o .loop-test .came)) (c .spaces .ensures)
 
 -- the loop is left with the line's end or with the first misfit
-outcome : (c : tie.Joined1 Inv-loop μ-loop Inv-items μ-items) → (let l = c .before .items in pick (c .if1 .fits) (record { fits = true; count = l .count; items = l .items }) (itemsAnswer misfit)) ≡ itemsAnswer (wholeAwareness (c .before .before .before .before .before .args .line .now))
+outcome : (c : tie.Joined1 Inv-loop μ-loop Inv-items μ-items) → (let l = c .before .items in pick (c .if1 .fits) (record { fits = true; count = l .count; items = l .items }) (itemsAnswer misfit)) ≡ itemsAnswer (wholeAwareness (c .before .before .before .before .args .line .now))
 outcome c =
     let l = c .before .items in
     let s = l .inv in
     ⊎-elim (λ w. rw (w .1) (sym (ends s (w .0 .taken))))
     (⊎-elim (λ w. rw (w .2) (ap itemsAnswer (sym (full s (w .0 .left) (w .1 .taken)))))
-    (⊎-elim (λ w. rw (w .5) (ap itemsAnswer (sym (stray s (w .0 .left) (w .1 .left) (w .2 .result) (w .2 .ensures) (not-true (w .2 .result .fits) (w .4 .taken))))))
-    (λ w. rw (w .11) (ap itemsAnswer (sym (misplaced s (w .0 .left) (w .1 .left) (w .2 .result) (w .2 .ensures) (not-false (w .2 .result .fits) (w .4 .left))
-    (w .6 .inv ∙ not-behind (l .items) (l .count) (w .2 .result .item) (w .6 .k) _ (w .7 .taken) (omega (arith, size s)) (sym (w .9 .ensures) ∙ not-true (w .9 .result) (w .10 .taken))))))))) (c .if1 .came)
+    (⊎-elim (λ w. rw (w .5) (ap itemsAnswer (sym (stray s (w .0 .left) (w .1 .left) (no-body (l .at) (w .2 .ensures) (not-true _ (w .4 .taken)))))))
+    (⊎-elim (λ w. rw (w .9) (ap itemsAnswer (sym (stray s (w .0 .left) (w .1 .left) (no-stop (l .at) (w .2 .ensures) (not-false _ (w .4 .left)) (w .6 .ensures) (not-true _ (w .8 .taken)))))))
+    (⊎-elim (λ w. rw (w .12) (ap itemsAnswer (sym (stray s (w .0 .left) (w .1 .left)
+    (invalid (l .at) (w .2 .ensures) (not-false _ (w .4 .left)) (w .6 .ensures) (not-false _ (w .8 .left)) (w .10 .ensures) (not-true _ (w .11 .taken)))))))
+    (λ w. rw (w .20) (ap itemsAnswer (sym (misplaced s (w .0 .left) (w .1 .left) (w .6 .result .next)
+    (valid (l .at) (w .2 .ensures) (not-false _ (w .4 .left)) (w .6 .ensures) (not-false _ (w .8 .left)) (w .10 .ensures) (not-false _ (w .11 .left)))
+    (w .12 .inv .1 ∙ back-off (l .items) (w .12 .k) (w .2 .result .item) _ (w .13 .taken) (omega (arith, w .12 .inv .0, size s)) (sym (w .18 .ensures) ∙ not-true _ (w .19 .taken)))))))))))
+    (c .if1 .came)
 
 returns : tie.Need-returns Inv-loop μ-loop Inv-items μ-items
-returns c = rw (c .if5 .taken) at (outcome (c .before))
+returns c = rw (c .if8 .taken) at (outcome (c .before))
+
+no-items-requires : tie.Need-no-items-requires Inv-loop μ-loop Inv-items μ-items
+no-items-requires c κs = search needs
 
 returns-2 : tie.Need-returns-2 Inv-loop μ-loop Inv-items μ-items
-returns-2 c = c .before .before .before .before .no-items .ensures ∙ rw (c .if5 .left) at (outcome (c .before))
+returns-2 c = c .no-items .ensures ∙ rw (c .before .if8 .left) at (outcome (c .before .before))
 
 pub read-awareness-spec : {M : Type 1} → statement M
 read-awareness-spec =
@@ -118,15 +151,19 @@ read-awareness-spec =
     μ-loop
     Inv-items
     μ-items
-    no-items-requires
+    blank-item-requires
     items-holds
-    read-item-requires
+    read-body-requires
+    slice-aggregate-word
+    word-requires
+    valid-item-requires
     loop-holds
+    sub-a
     cast-a
     mul-a
     array-copy-out-a
     may-follow-requires
-    add-k
+    sub-k
     loop-less
     loop-again
     cast-items
@@ -137,4 +174,5 @@ read-awareness-spec =
     items-less
     items-again
     returns
+    no-items-requires
     returns-2)
