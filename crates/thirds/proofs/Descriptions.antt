@@ -1,22 +1,27 @@
--- The descriptions tried one after the other, and the one that is asked for put.
-use Prim.Native.Nat.{ℕ}
-use mathlib.Core.Path.{_≡_, refl, sym, _∙_}
-use mathlib.Core.List.{List, [], _∷_, _++_, append-nil, append-assoc}
-use mathlib.Core.Bool.{Bool, true, false, not}
-use lib.Dec.{eqb, leb}
-use borrow.Author.Tests.{eqb-true, not-true, leb-true, leb-false}
-use Rattle.text.specs.Choice.{pick, _and_, member}
-use Rattle.text.specs.Piece.{gap, byte, canonical, canonical1, spell}
-use Rattle.text.specs.Read.{Got, misfit, got, orElse}
+-- Texts that begin alike, and the descriptions by their first byte.
+use Prim.Native.Nat.{ℕ, zero, suc, _≤_, _<_}
+use mathlib.Core.Path.{_≡_, refl, sym, _∙_, ap}
+use mathlib.Core.List.{List, [], _∷_, _++_}
+use mathlib.Core.Bool.{Bool, true, false}
+use lib.Dec.{eqb}
+use lib.ListN.{length, drop, getD, drop-of-length-le}
+use lib.Seq.{drop-cons}
+use borrow.Author.Tests.{eqb-true, ne-eqb}
+use native.Mathlib.Omega.{arith}
+use Rattle.text.specs.Choice.{pick}
+use Rattle.text.specs.Piece.{gap, byte, canonical, canonical1, bytes, spell}
+use Rattle.text.specs.Read.{Got, misfit, got, orElse, andThen, readText, readAfter}
 use Rattle.text.specs.Names.{readName}
-use Rattle.text.specs.Held.{Held, readWord}
+use Rattle.text.specs.Held.{Held, none, readWord}
+use Rattle.text.specs.Put.{Put}
 use Rattle.text.specs.declared.Found.{Found}
-use Rattle.text.specs.Laws.Base.{and-1, and-2}
-use Rattle.surface.specs.Descriptions.{dry, descriptionName}
-use Rattle.thirds.specs.Groups.{descriptionOrder, readDescription}
-use Rattle.thirds.specs.Laws.Groups.{in-order}
+use Rattle.text.specs.Laws.Words.{word-cut}
+use Rattle.surface.specs.Descriptions.{waterOnCompactedSnow, dry, descriptionName}
+use Rattle.thirds.specs.Groups.{descriptionPieces, descriptionOrder, readDescription}
+use Rattle.thirds.specs.Held.{Tried}
 use Rattle.thirds.specs.Laws.Sizes.{no-name}
-use Rattle.thirds.specs.Parts.{toDry, toWater, toWet, asked}
+use Rattle.thirds.specs.Parts.{Texts, readFirst, behind, longer, wets}
+use Rattle.thirds.proofs.Steps.{nothing, after-on, after-off, itself, else-on, else-off}
 
 else-none : {A : Type 0} (g : Got A) → orElse g misfit ≡ g
 else-none misfit = refl
@@ -26,52 +31,126 @@ else-assoc : {A : Type 0} (f g h : Got A) → orElse (orElse f g) h ≡ orElse f
 else-assoc misfit g h = refl
 else-assoc (got a r) g h = refl
 
--- g, or else the first of the names that stands here
-abbrev pub tries : Got ℕ → List ℕ → List ℕ → Got ℕ
-tries g [] m = g
-tries g (n ∷ ns) m = tries (orElse g (readWord (descriptionName n) n m)) ns m
-
-tries-are : (g : Got ℕ) (ns m : List ℕ) → tries g ns m ≡ orElse g (readName descriptionName ns m)
-unfolding readName
-tries-are g [] m = sym (else-none g)
-tries-are g (n ∷ ns) m = tries-are (orElse g (readWord (descriptionName n) n m)) ns m ∙ else-assoc g (readWord (descriptionName n) n m) (readName descriptionName ns m)
-
-pub tried-all : {m : List ℕ} {r : Found} (g : Got ℕ) (ns k : List ℕ) → Held m (tries g ns k) r → Held m (orElse g (readName descriptionName ns k)) r
-tried-all g ns k h = rw (← tries-are g ns k) h
-
-names-join : (ns ks m : List ℕ) → readName descriptionName (ns ++ ks) m ≡ orElse (readName descriptionName ns m) (readName descriptionName ks m)
-unfolding readName
-names-join [] ks m = refl
-names-join (n ∷ ns) ks m = rw (names-join ns ks m) (sym (else-assoc (readWord (descriptionName n) n m) (readName descriptionName ns m) (readName descriptionName ks m)))
-
--- the three parts are the whole order
-pub order-parts : (m : List ℕ) → orElse (orElse (readName descriptionName toDry m) (readName descriptionName toWater m)) (readName descriptionName toWet m) ≡ readDescription m
-unfolding readDescription
-order-parts m = rw (← names-join toDry toWater m) (sym (names-join (toDry ++ toWater) toWet m))
-
--- each description stands once in the order
-abbrev once : List ℕ → Bool
-once [] = true
-once (n ∷ ns) = not (member ns n) and once ns
-
--- so that its text is asked for once
-asked-one : (ns : List ℕ) (d : ℕ) → once ns ≡ true → asked ns d ≡ pick (member ns d) (descriptionName d) []
-unfolding asked
-asked-one [] d h = refl
-asked-one (n ∷ ns) d h = go (eqb n d) refl (asked-one ns d (and-2 (not (member ns n)) (once ns) h))
+-- what the texts share is read once
+first-cut : (p : List ℕ) (ts : Texts) (m : List ℕ) → readFirst (behind p ts) m ≡ readAfter p (readFirst ts) m
+first-cut p [] m = go (readText p m)
   where
-    go : (t : Bool) → eqb n d ≡ t → asked ns d ≡ pick (member ns d) (descriptionName d) []
-        → pick t (descriptionName n) [] ++ asked ns d ≡ pick (pick t true (member ns d)) (descriptionName d) []
-    go true e rest =
-        let z = eqb-true n d e in
-        let k : member ns d ≡ false = rw z at (not-true (member ns n) (and-1 (not (member ns n)) (once ns) h)) in
-        rw (rest, k, z) (append-nil (descriptionName d))
-    go false e rest = rest
+    go : (g : Got (Unit {0})) → misfit ≡ andThen {B = ℕ} g (λ _ k. misfit)
+    go misfit = refl
+    go (got a k) = refl
+first-cut p (t ∷ ts) m = rw (first-cut p ts m, word-cut p (t .0) (t .1) m) (go (readText p m))
+  where
+    go : (g : Got (Unit {0})) → orElse (andThen g (λ _ k. readWord (t .0) (t .1) k)) (andThen g (λ _ k. readFirst ts k)) ≡ andThen g (λ _ k. readFirst (t ∷ ts) k)
+    go misfit = refl
+    go (got a k) = refl
 
-order-once : once descriptionOrder ≡ true
-unfolding _and_
-order-once = refl
+-- one more text is tried last
+first-more : (ts : Texts) (t : List ℕ) (v : ℕ) (m : List ℕ) → readFirst (ts ++ ((t, v) ∷ [])) m ≡ orElse (readFirst ts m) (readWord t v m)
+first-more [] t v m = else-none (readWord t v m)
+first-more (u ∷ ts) t v m = rw (first-more ts t v m) (sym (else-assoc (readWord (u .0) (u .1) m) (readFirst ts m) (readWord t v m)))
 
+pub first-one : (t : List ℕ) (v : ℕ) (k : List ℕ) {m : List ℕ} {r : Found} → Held m (readWord t v k) r → Held m (readFirst ((t, v) ∷ []) k) r
+first-one t v k h = rw (else-none (readWord t v k)) h
+
+pub first-or : (ts : Texts) (t : List ℕ) (v : ℕ) (k : List ℕ) {m : List ℕ} {f r : Found} → Tried m f (readWord t v k) r → Held m (readFirst ts k) f → Held m (readFirst (ts ++ ((t, v) ∷ [])) k) r
+first-or ts t v k h q = rw (first-more ts t v k) (h .on q)
+
+module _ (p : List ℕ) (ts : Texts) (k : List ℕ) (v : ℕ) {m : List ℕ} {f : Found} (h : Held m (readWord p v k) f) where
+  -- the texts behind p, where it stands and where it does not
+  pub first-on : {r : Found} → f .fits ≡ true → Held m (readFirst ts (drop (f .next) m)) r → Held m (readFirst (behind p ts) k) r
+  first-on t q = rw (first-cut p ts k) (after-on p k v h (readFirst ts) t q)
+
+  pub first-off : f .fits ≡ false → Held m (readFirst (behind p ts) k) none
+  first-off t = rw (first-cut p ts k) (after-off p k v h (readFirst ts) t)
+
+-- p does not stand
+pub longer-none : (p : List ℕ) (ts : Texts) (k : List ℕ) (v : ℕ) {m : List ℕ} {f : Found} → Held m (readWord p v k) f → f .fits ≡ false → Held m (readFirst (longer p ts v) k) none
+longer-none p ts k v h t = first-off p (ts ++ (([], v) ∷ [])) k v h t
+
+module _ (p : List ℕ) (ts : Texts) (k : List ℕ) (v : ℕ) {m : List ℕ} {f g : Found} (h : Held m (readWord p v k) f) (t : f .fits ≡ true) (q : Held m (readFirst ts (drop (f .next) m)) g) where
+  -- a longer text than p stands, or p alone
+  pub longer-on : g .fits ≡ true → Held m (readFirst (longer p ts v) k) g
+  longer-on x = first-on p (ts ++ (([], v) ∷ [])) k v h t (rw (first-more ts [] v (drop (f .next) m)) (else-on q _ x))
+
+  pub longer-off : g .fits ≡ false → Held m (readFirst (longer p ts v) k) f
+  unfolding readText
+  longer-off x = first-on p (ts ++ (([], v) ∷ [])) k v h t (rw (first-more ts [] v (drop (f .next) m)) (else-off q x (itself p k v h t)))
+
+-- a text can stand where the byte b does
+abbrev can : ℕ → List ℕ → Bool
+can b [] = true
+can b (c ∷ cs) = eqb c b
+
+-- those of the texts that can
+abbrev pub starting : ℕ → Texts → Texts
+starting b [] = []
+starting b (t ∷ ts) = pick (can b (t .0)) (t ∷ starting b ts) (starting b ts)
+
+-- only they are tried
+first-only : (b : ℕ) (k : List ℕ) (ts : Texts) → readFirst ts (b ∷ k) ≡ readFirst (starting b ts) (b ∷ k)
+unfolding readText
+first-only b k [] = refl
+first-only b k (([], v) ∷ ts) = refl
+first-only b k ((c ∷ cs, v) ∷ ts) = rw (first-only b k ts) (go (eqb c b) refl)
+  where
+    rest : Got ℕ
+    rest = readFirst (starting b ts) (b ∷ k)
+
+    go : (t : Bool) → eqb c b ≡ t → orElse (readWord (c ∷ cs) v (b ∷ k)) rest ≡ readFirst (pick t ((c ∷ cs, v) ∷ starting b ts) (starting b ts)) (b ∷ k)
+    go true e = refl
+    go false e = rw e
+
+-- the descriptions, each with its number
+abbrev pub named : List ℕ → Texts
+named [] = []
+named (n ∷ ns) = (descriptionName n, n) ∷ named ns
+
+-- one after the other they are the names
+named-read : (ns m : List ℕ) → readName descriptionName ns m ≡ readFirst (named ns) m
+unfolding readName
+named-read [] m = refl
+named-read (n ∷ ns) m = rw (named-read ns m)
+
+module _ (b i : ℕ) (m : List ℕ) (h : i < length m) (e : getD m i 0 ≡ b) where
+  here : drop i m ≡ b ∷ drop (suc i) m
+  here = drop-cons m i 0 h ∙ ap (λ (x : ℕ). x ∷ drop (suc i) m) e
+
+  -- the byte at i says which descriptions can stand there
+  pub by-byte : {r : Found} → Held m (readFirst (starting b (named descriptionOrder)) (drop i m)) r → Held m (readDescription (drop i m)) r
+  unfolding readDescription
+  by-byte q = rw (named-read descriptionOrder (drop i m), here, first-only b (drop (suc i) m) (named descriptionOrder)) (rw here at q)
+
+  -- no description begins by any other byte than these
+  pub by-other : (b ≡ 78 → ⊥) → (b ≡ 67 → ⊥) → (b ≡ 68 → ⊥) → (b ≡ 70 → ⊥) → (b ≡ 73 → ⊥) → (b ≡ 83 → ⊥) → (b ≡ 87 → ⊥) → Held m (readDescription (drop i m)) none
+  unfolding readDescription readName readText
+  by-other n c d f i′ s w = rw (here, other 78 n, other 67 c, other 68 d, other 70 f, other 73 i′, other 83 s, other 87 w) nothing
+    where
+      other : (x : ℕ) → (b ≡ x → ⊥) → eqb x b ≡ false
+      other x h = ne-eqb x b (λ q. h (sym q))
+
+-- those that begin by W as the code tries them
+abbrev wetOrWater : Texts
+wetOrWater = wets ++ ((bytes "WATER ON TOP OF COMPACTED SNOW", waterOnCompactedSnow) ∷ [])
+
+-- in either order: WATER and WET part at their second byte
+either-order : (k : List ℕ) → readFirst wetOrWater (87 ∷ k) ≡ readFirst (starting 87 (named descriptionOrder)) (87 ∷ k)
+unfolding readText
+either-order [] = refl
+either-order (x ∷ k) = go (eqb 65 x) refl
+  where
+    go : (t : Bool) → eqb 65 x ≡ t → readFirst wetOrWater (87 ∷ x ∷ k) ≡ readFirst (starting 87 (named descriptionOrder)) (87 ∷ x ∷ k)
+    go true e = rw (← eqb-true 65 x e) refl
+    go false e = rw e refl
+
+pub by-W : (i : ℕ) (m : List ℕ) → i < length m → getD m i 0 ≡ 87 → {r : Found} → Held m (readFirst wetOrWater (drop i m)) r → Held m (readDescription (drop i m)) r
+by-W i m h e q = let z = here 87 i m h e in by-byte 87 i m h e (rw (z, ← either-order (drop (suc i) m)) (rw z at q))
+
+-- nothing stands at the end
+pub by-end : (i : ℕ) (m : List ℕ) → length m ≤ i → Held m (readDescription (drop i m)) none
+unfolding readDescription readName readText
+by-end i m h = rw (drop-of-length-le m h) nothing
+
+-- the bytes of a fixed text
 spelled : (cs : List ℕ) → canonical (spell cs) ≡ cs
 unfolding spell
 spelled [] = refl
@@ -81,22 +160,20 @@ spelled (c ∷ cs) = go (eqb c 32) refl (spelled cs)
     go true e h = rw (eqb-true c 32 e, h)
     go false e h = rw h
 
-asked-join : (ns ks : List ℕ) (d : ℕ) → asked (ns ++ ks) d ≡ asked ns d ++ asked ks d
-unfolding asked
-asked-join [] ks d = refl
-asked-join (n ∷ ns) ks d = rw (asked-join ns ks d) (sym (append-assoc (pick (eqb n d) (descriptionName n) []) (asked ns d) (asked ks d)))
+-- the name of the description n, which is d
+pub put-named : (n : ℕ) {d at r : ℕ} {b x : List ℕ} → d ≡ n → Put at (descriptionName n) b x r → Put at (canonical (descriptionPieces d)) b x r
+put-named n {d} e p = rw (spelled (descriptionName d), e) p
 
-whole : (d : ℕ) → asked descriptionOrder d ≡ descriptionName d
-whole d = asked-one descriptionOrder d order-once ∙ go (leb d dry) refl
-  where
-    go : (b : Bool) → leb d dry ≡ b → pick (member descriptionOrder d) (descriptionName d) [] ≡ descriptionName d
-    go true e = rw (in-order d (leb-true d dry e))
-    go false e = rw (no-name d (leb-false d dry e)) (both (member descriptionOrder d))
-      where
-        both : (t : Bool) → pick {A = List ℕ} t [] [] ≡ []
-        both true = refl
-        both false = refl
+-- past DRY there is none
+pub put-no-name : (d : ℕ) {at r : ℕ} {b x : List ℕ} → dry < d → Put at [] b x r → Put at (canonical (descriptionPieces d)) b x r
+put-no-name d h p = rw (spelled (descriptionName d), no-name d h) p
 
--- the parts of the order put one behind the other
-pub asked-all : (d : ℕ) → canonical (spell (descriptionName d)) ≡ asked toDry d ++ (asked toWater d ++ asked toWet d)
-asked-all d = spelled (descriptionName d) ∙ sym (whole d) ∙ asked-join toDry (toWater ++ toWet) d ∙ rw (asked-join toWater toWet d)
+-- d is none of the numbers below n
+abbrev NoneBelow : ℕ → ℕ → Type 0
+NoneBelow d zero = Unit {0}
+NoneBelow d (suc n) = NoneBelow d n × (d ≡ n → ⊥)
+
+-- so it is n or more
+pub none-below : (d n : ℕ) → NoneBelow d n → n ≤ d
+none-below d zero r = omega arith
+none-below d (suc n) r = omega (arith, none-below d n (r .0), r .1)

@@ -1,17 +1,22 @@
 -- One step of each reader of a third.
 use Prim.Native.Nat.{ℕ}
 use mathlib.Core.Path.{_≡_, refl, _∙_, ap}
-use mathlib.Core.List.{List, [], _∷_, _++_, append-nil}
+use mathlib.Core.List.{List, [], _∷_, _++_}
 use mathlib.Core.Bool.{Bool, true, false}
+use lib.ListN.{drop}
+use native.Mathlib.Omega.{arith}
 use Rattle.text.specs.Piece.{Piece, byte, gap, canonical, bytes}
-use Rattle.text.specs.Read.{Got, misfit, got, guard, andThen, orElse}
-use Rattle.text.specs.Held.{Held}
-use Rattle.text.specs.Laws.Held.{got-of, misfit-of}
-use Rattle.text.specs.Put.{Put}
+use Rattle.text.specs.Read.{Got, misfit, got, guard, andThen, orElse, readAfter}
+use Rattle.text.specs.Held.{Held, none, readWord}
+use Rattle.text.specs.Laws.Held.{got-of, misfit-of, held-text}
 use Rattle.text.specs.Laws.Put.{canonical-append}
 use Rattle.text.specs.declared.Found.{Found}
 use Rattle.thirds.specs.Groups.{Three, thirdPieces, groupPieces}
 use Rattle.thirds.specs.Held.{Kept}
+
+-- a misfit is all zero
+pub nothing : {m : List ℕ} → Held m misfit none
+nothing = record { within = omega arith; says = refl; blank = refl }
 
 module _ {m : List ℕ} {g : Got ℕ} {r : Found} (h : Held m g r) where
   -- what fits is not tried again
@@ -28,14 +33,26 @@ module _ {m : List ℕ} {g : Got ℕ} {r : Found} (h : Held m g r) where
     where
       go : (t : Bool) → r .fits ≡ t → guard (p (r .value)) g ≡ andThen g (λ x k. guard (p x) (got x k))
       go true e = rw (got-of h e)
-      go false e = rw (misfit-of h e) (none (p (r .value)))
+      go false e = rw (misfit-of h e) (either (p (r .value)))
         where
-          none : (t : Bool) → guard {A = ℕ} t misfit ≡ misfit
-          none true = refl
-          none false = refl
+          either : (t : Bool) → guard {A = ℕ} t misfit ≡ misfit
+          either true = refl
+          either false = refl
 
   pub kept-if : {s : Found} (p : ℕ → Bool) → Kept r (p (r .value)) s → Held m (andThen g (λ x k. guard (p x) (got x k))) s
   kept-if p q = rw (← tested p) (q .on h)
+
+module _ (p k : List ℕ) (v : ℕ) {m : List ℕ} {f : Found} (h : Held m (readWord p v k) f) where
+  -- what is read behind a fixed text
+  pub after-on : (g : List ℕ → Got ℕ) {r : Found} → f .fits ≡ true → Held m (g (drop (f .next) m)) r → Held m (readAfter p g k) r
+  after-on g t q = rw (held-text p k v h, t) q
+
+  pub after-off : (g : List ℕ → Got ℕ) → f .fits ≡ false → Held m (readAfter p g k) none
+  after-off g t = rw (held-text p k v h, t) nothing
+
+  -- the text itself, with its value
+  pub itself : f .fits ≡ true → Held m (got v (drop (f .next) m)) f
+  itself t = record { within = h .within; says = rw t (rw (held-text p k v h, t) at (h .says)); blank = h .blank }
 
 -- the bytes of a gap and three thirds
 pub group-bytes : (kind : ℕ) (t : Three) → canonical (groupPieces kind t)
@@ -44,7 +61,3 @@ group-bytes kind t = joined-bytes (thirdPieces kind (t .0)) (thirdPieces kind (t
   where
     joined-bytes : (a b c : List Piece) → canonical (gap ∷ (a ++ (byte 47 ∷ (b ++ (byte 47 ∷ c))))) ≡ 32 ∷ (canonical a ++ (47 ∷ (canonical b ++ (47 ∷ canonical c))))
     joined-bytes a b c = ap (λ (q : List ℕ). 32 ∷ q) (canonical-append a (byte 47 ∷ (b ++ (byte 47 ∷ c))) ∙ ap (λ (q : List ℕ). canonical a ++ (47 ∷ q)) (canonical-append b (byte 47 ∷ c)))
-
--- nothing behind the last text
-pub put-end : {a r : ℕ} {t b x : List ℕ} → Put a t b x r → Put a (t ++ []) b x r
-put-end {t = t} p = rw (append-nil t) p

@@ -1,21 +1,53 @@
--- The descriptions in parts, as the code goes through them.
+-- The descriptions as the code reads them: texts that begin alike, what they share said once.
 use Prim.Native.Nat.{ℕ}
 use mathlib.Core.List.{List, [], _∷_, _++_}
-use lib.Dec.{eqb}
-use Rattle.text.specs.Choice.{pick}
-use Rattle.surface.specs.Descriptions.{notReported, compactedSnow, drySnow, drySnowOnCompactedSnow, drySnowOnIce, frost, ice, slush, standingWater, waterOnCompactedSnow, wet, wetIce, wetSnow, wetSnowOnCompactedSnow, wetSnowOnIce, dry, descriptionName}
+use Rattle.text.specs.Piece.{bytes}
+use Rattle.text.specs.Read.{Got, misfit, orElse}
+use Rattle.text.specs.Held.{readWord}
+use Rattle.surface.specs.Descriptions.{drySnow, drySnowOnCompactedSnow, drySnowOnIce, wet, wetIce, wetSnow, wetSnowOnCompactedSnow, wetSnowOnIce, dry}
 
--- the order in which the descriptions are tried, cut into three
-abbrev pub toDry : List ℕ
-toDry = notReported ∷ compactedSnow ∷ drySnowOnCompactedSnow ∷ drySnowOnIce ∷ drySnow ∷ dry ∷ []
+-- texts, each with its value
+abbrev pub Texts : Type 0
+Texts = List (List ℕ × ℕ)
 
-abbrev pub toWater : List ℕ
-toWater = frost ∷ ice ∷ slush ∷ standingWater ∷ waterOnCompactedSnow ∷ []
+-- the first of them that stands here
+abbrev pub readFirst : Texts → List ℕ → Got ℕ
+readFirst [] m = misfit
+readFirst (t ∷ ts) m = orElse (readWord (t .0) (t .1) m) (readFirst ts m)
 
-abbrev pub toWet : List ℕ
-toWet = wetSnowOnCompactedSnow ∷ wetSnowOnIce ∷ wetSnow ∷ wetIce ∷ wet ∷ []
+-- each with p before it
+abbrev pub behind : List ℕ → Texts → Texts
+behind p [] = []
+behind p (t ∷ ts) = (p ++ t .0, t .1) ∷ behind p ts
 
--- the text of the description d if it is one of a list, else nothing
-unfoldable pub asked : List ℕ → ℕ → List ℕ
-asked [] d = []
-asked (n ∷ ns) d = pick (eqb n d) (descriptionName n) [] ++ asked ns d
+-- each with p before it, and then p alone with the value v
+abbrev pub longer : List ℕ → Texts → ℕ → Texts
+longer p ts v = behind p (ts ++ (([], v) ∷ []))
+
+-- what snow lies on, with the values of snow on top of it
+abbrev pub under : ℕ → ℕ → Texts
+under compacted ice = (bytes "COMPACTED SNOW", compacted) ∷ (bytes "ICE", ice) ∷ []
+
+-- the same behind ON TOP OF
+abbrev pub onTop : ℕ → ℕ → Texts
+onTop compacted ice = behind (bytes " ON TOP OF ") (under compacted ice)
+
+-- SNOW on top of something, and then alone
+abbrev pub snows : ℕ → ℕ → ℕ → Texts
+snows alone compacted ice = longer (bytes "SNOW") (onTop compacted ice) alone
+
+-- what may stand behind DRY
+abbrev pub behindDry : Texts
+behindDry = behind (bytes " ") (snows drySnow drySnowOnCompactedSnow drySnowOnIce)
+
+-- those that begin by DRY
+abbrev pub dries : Texts
+dries = longer (bytes "DRY") behindDry dry
+
+-- what may stand behind WET
+abbrev pub behindWet : Texts
+behindWet = behind (bytes " ") (snows wetSnow wetSnowOnCompactedSnow wetSnowOnIce ++ ((bytes "ICE", wetIce) ∷ []))
+
+-- those that begin by WET
+abbrev pub wets : Texts
+wets = longer (bytes "WET") behindWet wet

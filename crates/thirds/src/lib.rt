@@ -1,18 +1,13 @@
 // The groups of thirds of a runway row's text: codes, coverages, depths and descriptions, joined by `/`.
-ghost use mathlib.Core.List.{[]};
-ghost use lib.Dec.{eqb};
 ghost use lib.ListN.{drop};
-ghost use Rattle.text.specs.Choice.{pick};
 ghost use Rattle.text.specs.Piece.{canonical, bytes};
 ghost use Rattle.text.specs.Read.{readAfter};
-ghost use Rattle.text.specs.Names.{readName};
 ghost use Rattle.text.specs.Numbers.{readNumber};
 ghost use Rattle.text.specs.Held.{Held, readWord};
 ghost use Rattle.text.specs.Put.{Put};
 ghost use Rattle.thirds.specs.Groups.{measurePieces, readMeasure, readCoverage, descriptionPieces, readDescription, thirdPieces, readThird, readThree, groupPieces, readGroup};
-ghost use Rattle.thirds.specs.Parts.{toDry, toWater, toWet, asked};
+ghost use Rattle.thirds.specs.Parts.{readFirst, onTop, snows, behindDry, dries, behindWet, wets};
 ghost use Rattle.thirds.specs.Held.{HeldThree, Tried, Kept};
-ghost use Rattle.surface.specs.Descriptions.{descriptionName};
 use surface::description;
 use text::Found;
 use text::NONE;
@@ -61,74 +56,133 @@ fn or_word(f: Found, s: &[u8], i: usize, t: &[u8], v: u8) -> Found
     word(s, i, t, v as u32)
 }
 
-// The descriptions, a longer one before each that it begins with.
-fn description_to_dry(s: &[u8], i: usize) -> Found
-    ensures { λ r. ⌜ Held (now (s .entry)) (readName descriptionName toDry (drop i (now (s .entry)))) r ⌝ }
+// What snow lies on, COMPACTED SNOW or ICE; the values are those of snow on top of it.
+fn on_top(s: &[u8], i: usize, compacted: u8, ice: u8) -> Found
+    ensures { λ r. ⌜ Held (now (s .entry)) (readFirst (onTop compacted ice) (drop i (now (s .entry)))) r ⌝ }
 {
-    let f = word(s, i, &texts::NR, 0);
-    let f = or_word(f, s, i, &texts::COMPACTED_SNOW, description::COMPACTED_SNOW);
-    let f = or_word(
-        f,
-        s,
-        i,
-        &texts::DRY_SNOW_ON_COMPACTED_SNOW,
-        description::DRY_SNOW_ON_COMPACTED_SNOW,
-    );
-    let f = or_word(
-        f,
-        s,
-        i,
-        &texts::DRY_SNOW_ON_ICE,
-        description::DRY_SNOW_ON_ICE,
-    );
-    let f = or_word(f, s, i, &texts::DRY_SNOW, description::DRY_SNOW);
-    or_word(f, s, i, &texts::DRY, description::DRY)
+    let f = word(s, i, b" ON TOP OF ", 0);
+    if !f.fits {
+        return NONE;
+    }
+    let g = word(s, f.next, &texts::COMPACTED_SNOW, compacted as u32);
+    or_word(g, s, f.next, &texts::ICE, ice)
 }
 
-fn description_to_water(f: Found, s: &[u8], i: usize) -> Found
-    ensures { λ r. ⌜ Tried (now (s .entry)) f (readName descriptionName toWater (drop i (now (s .entry)))) r ⌝ }
+// SNOW on top of something, or else alone.
+fn snow(s: &[u8], i: usize, alone: u8, compacted: u8, ice: u8) -> Found
+    ensures { λ r. ⌜ Held (now (s .entry)) (readFirst (snows alone compacted ice) (drop i (now (s .entry)))) r ⌝ }
 {
-    let f = or_word(f, s, i, &texts::FROST, description::FROST);
-    let f = or_word(f, s, i, &texts::ICE, description::ICE);
-    let f = or_word(f, s, i, &texts::SLUSH, description::SLUSH);
-    let f = or_word(f, s, i, &texts::STANDING_WATER, description::STANDING_WATER);
-    or_word(
-        f,
+    let f = word(s, i, b"SNOW", alone as u32);
+    if !f.fits {
+        return NONE;
+    }
+    let g = on_top(s, f.next, compacted, ice);
+    if g.fits {
+        return g;
+    }
+    f
+}
+
+// What may stand behind DRY.
+fn behind_dry(s: &[u8], i: usize) -> Found
+    ensures { λ r. ⌜ Held (now (s .entry)) (readFirst behindDry (drop i (now (s .entry)))) r ⌝ }
+{
+    let f = word(s, i, b" ", 0);
+    if !f.fits {
+        return NONE;
+    }
+    snow(
         s,
-        i,
-        &texts::WATER_ON_COMPACTED_SNOW,
-        description::WATER_ON_COMPACTED_SNOW,
+        f.next,
+        description::DRY_SNOW,
+        description::DRY_SNOW_ON_COMPACTED_SNOW,
+        description::DRY_SNOW_ON_ICE,
     )
 }
 
-fn description_to_wet(f: Found, s: &[u8], i: usize) -> Found
-    ensures { λ r. ⌜ Tried (now (s .entry)) f (readName descriptionName toWet (drop i (now (s .entry)))) r ⌝ }
+// The descriptions that begin by DRY, and DRY alone where no longer one stands.
+fn dry(s: &[u8], i: usize) -> Found
+    ensures { λ r. ⌜ Held (now (s .entry)) (readFirst dries (drop i (now (s .entry)))) r ⌝ }
 {
-    let f = or_word(
-        f,
-        s,
-        i,
-        &texts::WET_SNOW_ON_COMPACTED_SNOW,
-        description::WET_SNOW_ON_COMPACTED_SNOW,
-    );
-    let f = or_word(
-        f,
-        s,
-        i,
-        &texts::WET_SNOW_ON_ICE,
-        description::WET_SNOW_ON_ICE,
-    );
-    let f = or_word(f, s, i, &texts::WET_SNOW, description::WET_SNOW);
-    let f = or_word(f, s, i, &texts::WET_ICE, description::WET_ICE);
-    or_word(f, s, i, &texts::WET, description::WET)
+    let f = word(s, i, &texts::DRY, description::DRY as u32);
+    if !f.fits {
+        return NONE;
+    }
+    let g = behind_dry(s, f.next);
+    if g.fits {
+        return g;
+    }
+    f
 }
 
+// What may stand behind WET.
+fn behind_wet(s: &[u8], i: usize) -> Found
+    ensures { λ r. ⌜ Held (now (s .entry)) (readFirst behindWet (drop i (now (s .entry)))) r ⌝ }
+{
+    let f = word(s, i, b" ", 0);
+    if !f.fits {
+        return NONE;
+    }
+    let g = snow(
+        s,
+        f.next,
+        description::WET_SNOW,
+        description::WET_SNOW_ON_COMPACTED_SNOW,
+        description::WET_SNOW_ON_ICE,
+    );
+    or_word(g, s, f.next, &texts::ICE, description::WET_ICE)
+}
+
+// The same for WET.
+fn wet(s: &[u8], i: usize) -> Found
+    ensures { λ r. ⌜ Held (now (s .entry)) (readFirst wets (drop i (now (s .entry)))) r ⌝ }
+{
+    let f = word(s, i, &texts::WET, description::WET as u32);
+    if !f.fits {
+        return NONE;
+    }
+    let g = behind_wet(s, f.next);
+    if g.fits {
+        return g;
+    }
+    f
+}
+
+// The byte that stands there says which descriptions can.
 fn description(s: &[u8], i: usize) -> Found
     ensures { λ r. ⌜ Held (now (s .entry)) (readDescription (drop i (now (s .entry)))) r ⌝ }
 {
-    let f = description_to_dry(s, i);
-    let f = description_to_water(f, s, i);
-    description_to_wet(f, s, i)
+    if s.len() <= i {
+        return NONE;
+    }
+    let b = s[i];
+    match b {
+        b'N' => word(s, i, &texts::NR, description::NR as u32),
+        b'C' => word(
+            s,
+            i,
+            &texts::COMPACTED_SNOW,
+            description::COMPACTED_SNOW as u32,
+        ),
+        b'D' => dry(s, i),
+        b'F' => word(s, i, &texts::FROST, description::FROST as u32),
+        b'I' => word(s, i, &texts::ICE, description::ICE as u32),
+        b'S' => {
+            let f = word(s, i, &texts::SLUSH, description::SLUSH as u32);
+            or_word(f, s, i, &texts::STANDING_WATER, description::STANDING_WATER)
+        }
+        b'W' => {
+            let f = wet(s, i);
+            or_word(
+                f,
+                s,
+                i,
+                &texts::WATER_ON_COMPACTED_SNOW,
+                description::WATER_ON_COMPACTED_SNOW,
+            )
+        }
+        _ => NONE,
+    }
 }
 
 // What was found, if the test holds.
@@ -232,95 +286,31 @@ pub fn read_group(kind: u8, s: &[u8], i: usize) -> Trio
 
 // ---- Writing
 
-// Puts `t`, the text of the description `n`, if that is the one asked for; else nothing.
-fn put_asked(d: u32, out: &mut [u8], at: usize, t: &[u8], n: u8) -> usize
-    ensures { λ r. ⌜ Put at (pick (eqb n d) (now (t .entry)) []) (now (out .entry)) (now (out .exit)) r ⌝ }
-{
-    if n as u32 == d {
-        return put(out, at, t);
-    }
-    put(out, at, b"")
-}
-
-fn put_to_dry(d: u32, out: &mut [u8], at: usize) -> usize
-    ensures { λ r. ⌜ Put at (asked toDry d) (now (out .entry)) (now (out .exit)) r ⌝ }
-{
-    let at = put_asked(d, out, at, &texts::NR, description::NR);
-    let at = put_asked(
-        d,
-        out,
-        at,
-        &texts::COMPACTED_SNOW,
-        description::COMPACTED_SNOW,
-    );
-    let at = put_asked(
-        d,
-        out,
-        at,
-        &texts::DRY_SNOW_ON_COMPACTED_SNOW,
-        description::DRY_SNOW_ON_COMPACTED_SNOW,
-    );
-    let at = put_asked(
-        d,
-        out,
-        at,
-        &texts::DRY_SNOW_ON_ICE,
-        description::DRY_SNOW_ON_ICE,
-    );
-    let at = put_asked(d, out, at, &texts::DRY_SNOW, description::DRY_SNOW);
-    put_asked(d, out, at, &texts::DRY, description::DRY)
-}
-
-fn put_to_water(d: u32, out: &mut [u8], at: usize) -> usize
-    ensures { λ r. ⌜ Put at (asked toWater d) (now (out .entry)) (now (out .exit)) r ⌝ }
-{
-    let at = put_asked(d, out, at, &texts::FROST, description::FROST);
-    let at = put_asked(d, out, at, &texts::ICE, description::ICE);
-    let at = put_asked(d, out, at, &texts::SLUSH, description::SLUSH);
-    let at = put_asked(
-        d,
-        out,
-        at,
-        &texts::STANDING_WATER,
-        description::STANDING_WATER,
-    );
-    put_asked(
-        d,
-        out,
-        at,
-        &texts::WATER_ON_COMPACTED_SNOW,
-        description::WATER_ON_COMPACTED_SNOW,
-    )
-}
-
-fn put_to_wet(d: u32, out: &mut [u8], at: usize) -> usize
-    ensures { λ r. ⌜ Put at (asked toWet d) (now (out .entry)) (now (out .exit)) r ⌝ }
-{
-    let at = put_asked(
-        d,
-        out,
-        at,
-        &texts::WET_SNOW_ON_COMPACTED_SNOW,
-        description::WET_SNOW_ON_COMPACTED_SNOW,
-    );
-    let at = put_asked(
-        d,
-        out,
-        at,
-        &texts::WET_SNOW_ON_ICE,
-        description::WET_SNOW_ON_ICE,
-    );
-    let at = put_asked(d, out, at, &texts::WET_SNOW, description::WET_SNOW);
-    let at = put_asked(d, out, at, &texts::WET_ICE, description::WET_ICE);
-    put_asked(d, out, at, &texts::WET, description::WET)
-}
-
+// Past DRY there is no description, and nothing is put.
 fn put_description(d: u32, out: &mut [u8], at: usize) -> usize
     ensures { λ r. ⌜ Put at (canonical (descriptionPieces d)) (now (out .entry)) (now (out .exit)) r ⌝ }
 {
-    let at = put_to_dry(d, out, at);
-    let at = put_to_water(d, out, at);
-    put_to_wet(d, out, at)
+    if (description::DRY as u32) < d {
+        return put(out, at, b"");
+    }
+    match d as u8 {
+        description::NR => put(out, at, &texts::NR),
+        description::COMPACTED_SNOW => put(out, at, &texts::COMPACTED_SNOW),
+        description::DRY_SNOW => put(out, at, &texts::DRY_SNOW),
+        description::DRY_SNOW_ON_COMPACTED_SNOW => put(out, at, &texts::DRY_SNOW_ON_COMPACTED_SNOW),
+        description::DRY_SNOW_ON_ICE => put(out, at, &texts::DRY_SNOW_ON_ICE),
+        description::FROST => put(out, at, &texts::FROST),
+        description::ICE => put(out, at, &texts::ICE),
+        description::SLUSH => put(out, at, &texts::SLUSH),
+        description::STANDING_WATER => put(out, at, &texts::STANDING_WATER),
+        description::WATER_ON_COMPACTED_SNOW => put(out, at, &texts::WATER_ON_COMPACTED_SNOW),
+        description::WET => put(out, at, &texts::WET),
+        description::WET_ICE => put(out, at, &texts::WET_ICE),
+        description::WET_SNOW => put(out, at, &texts::WET_SNOW),
+        description::WET_SNOW_ON_COMPACTED_SNOW => put(out, at, &texts::WET_SNOW_ON_COMPACTED_SNOW),
+        description::WET_SNOW_ON_ICE => put(out, at, &texts::WET_SNOW_ON_ICE),
+        _ => put(out, at, &texts::DRY),
+    }
 }
 
 // NR, or two digits, and three from 100 on.

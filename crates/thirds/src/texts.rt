@@ -1,4 +1,4 @@
-// The texts of the descriptions, each said once: the reader compares them, and the writer copies them.
+// The texts of the descriptions, each said once: the writer copies them, and the reader compares those that it reads whole.
 pub const NR: [u8; 2] = *b"NR";
 
 pub const COMPACTED_SNOW: [u8; 14] = *b"COMPACTED SNOW";

@@ -1,7 +1,6 @@
-use mathlib.Core.Path.{refl}
 use Rattle.text.specs.Piece.{bytes}
-use lib.ListN.{drop}
-use Rattle.text.specs.Laws.Held.{held-text}
+use Rattle.thirds.proofs.Steps.{after-on, after-off}
+use Rattle.thirds.specs.Groups.{readThird}
 use borrow.Author.Needs.{needs}
 use Rattle.thirds.proofs.next_third.Statement.{statement}
 use Rattle.thirds.proofs.next_third.Tie as tie
@@ -16,10 +15,10 @@ one-third-requires : tie.Need-one-third-requires
 one-third-requires c κs = search needs
 
 returns : tie.Need-returns
-returns c = let a = c .before .before .before .before .before .args in record { within = c .one-third .ensures .within; says = rw (held-text (bytes "/") (drop (a .i) (a .s .now)) 0 (c .before .before .word .ensures), c .before .if1 .taken) (c .one-third .ensures .says); blank = c .one-third .ensures .blank }
+returns c = let c₁ = c .before in after-on (bytes "/") _ 0 (c₁ .before .word .ensures) (readThird _) (c₁ .if1 .taken) (c .one-third .ensures)
 
 returns-2 : tie.Need-returns-2
-returns-2 c = let a = c .before .before .before .before .args in record { within = search needs; says = rw (held-text (bytes "/") (drop (a .i) (a .s .now)) 0 (c .before .word .ensures), c .if1 .left); blank = refl }
+returns-2 c = after-off (bytes "/") _ 0 (c .before .word .ensures) (readThird _) (c .if1 .left)
 
 pub next-third-spec : {M : Type 1} → statement M
 next-third-spec =

@@ -115,7 +115,7 @@ ordered : below (λ d. member descriptionOrder d) 16 ≡ true
 unfolding below _and_
 ordered = refl
 
-pub in-order : (d : ℕ) → d ≤ dry → member descriptionOrder d ≡ true
+in-order : (d : ℕ) → d ≤ dry → member descriptionOrder d ≡ true
 in-order d h = below-at (λ d. member descriptionOrder d) 16 ordered d (omega arith)
 
 no-more : (d : ℕ) → member descriptionOrder d ≡ true → d ≤ dry

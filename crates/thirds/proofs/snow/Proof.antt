@@ -1,0 +1,36 @@
+use borrow.Author.Tests.{not-true, not-false}
+use Rattle.thirds.proofs.Descriptions.{longer-none, longer-on, longer-off}
+use Rattle.text.specs.Piece.{bytes}
+use Rattle.thirds.specs.Parts.{onTop}
+use borrow.Author.Needs.{needs}
+use Rattle.thirds.proofs.snow.Statement.{statement}
+use Rattle.thirds.proofs.snow.Tie as tie
+
+slice-aggregate-word : tie.Need-slice-aggregate-word
+slice-aggregate-word c = search needs
+
+word-requires : tie.Need-word-requires
+word-requires c κs = search needs
+
+returns : tie.Need-returns
+returns c = longer-none (bytes "SNOW") (onTop _ _) _ _ (c .before .before .word .ensures) (not-true _ (c .if1 .taken))
+
+on-top-requires : tie.Need-on-top-requires
+on-top-requires c κs = search needs
+
+returns-2 : tie.Need-returns-2
+returns-2 c = let c₁ = c .before .before in longer-on (bytes "SNOW") (onTop _ _) _ _ (c₁ .before .before .word .ensures) (not-false _ (c₁ .if1 .left)) (c .before .on-top .ensures) (c .if2 .taken)
+
+returns-3 : tie.Need-returns-3
+returns-3 c = let c₁ = c .before .before in longer-off (bytes "SNOW") (onTop _ _) _ _ (c₁ .before .before .word .ensures) (not-false _ (c₁ .if1 .left)) (c .before .on-top .ensures) (c .if2 .left)
+
+pub snow-spec : {M : Type 1} → statement M
+snow-spec =
+    tie.close
+    (tie.spec
+    slice-aggregate-word
+    word-requires
+    returns
+    on-top-requires
+    returns-2
+    returns-3)
