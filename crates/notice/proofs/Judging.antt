@@ -1,14 +1,16 @@
 -- What is below the front: the rows, the remarks, and whether the lines agree.
-use Prim.Native.Nat.{ℕ, _<_, _≤_}
-use mathlib.Core.Path.{_≡_, refl, ap}
+use Prim.Native.Nat.{ℕ, _-_, _<_, _≤_}
+use mathlib.Core.Path.{_≡_, refl, _∙_, ap}
 use mathlib.Core.List.{List}
 use mathlib.Core.Bool.{Bool, true, false}
 use native.Mathlib.Omega.{arith}
 use lib.Dec.{eqb}
-use lib.ListN.{length, drop}
-use borrow.Author.Tests.{ne-eqb, le-leb, lt-leb}
+use lib.ListN.{length, take, drop}
+use borrow.Author.Tests.{eq-eqb, ne-eqb, le-leb, lt-leb}
 use Rattle.text.specs.Choice.{pick, sameBytes}
+use Rattle.text.specs.Held.{Reached}
 use Rattle.text.specs.Lines.{lines}
+use Rattle.text.specs.Laws.Held.{part-all}
 use Rattle.body.specs.declared.Rows.{Rows}
 use Rattle.body.specs.declared.RowsRead.{RowsRead}
 use Rattle.text.specs.Out.{Out, refuse, taken, next}
@@ -20,12 +22,13 @@ use Rattle.body.specs.Laws.Remarks.{remarks-numbered}
 use Rattle.front.specs.declared.Front.{Front}
 use Rattle.front.specs.declared.FrontRead.{FrontRead}
 use Rattle.notice.specs.declared.Record.{Record}
+use Rattle.notice.specs.declared.Reading.{Reading}
 use Rattle.notice.specs.Record.{makeRecord}
 use Rattle.notice.specs.Reading.{agreeing, accepted, refused, result, longest, reading}
 use Rattle.front.specs.Front.{headingOf, FrontHeld}
-use Rattle.notice.specs.Below.{readBelow}
+use Rattle.remarks.specs.declared.RemarksRead.{RemarksRead}
 use Rattle.remarks.specs.Held.{remarksAnswer}
-use Rattle.notice.specs.Below.{agreement, judged, recordOf}
+use Rattle.notice.specs.Below.{readBelow, agreement, lastRefusal, recordOf}
 use Rattle.notice.specs.Laws.Front.{front-is}
 
 -- the record of a front, rows and remarks, if its lines agree
@@ -45,10 +48,14 @@ agreed f r x all e = go (eqb (f .title .serial) (f .serial)) (sameBytes (f .titl
     go true false c = refl
     go false b c = refl
 
+-- the answer to a message whose front and rows are read, and whose remarks gave this answer
+abbrev judged : Front → Rows → RemarksRead → Reading
+judged f r x = pick (eqb (lastRefusal f r (x .refusal)) 0) (accepted (recordOf f r x)) (refused (lastRefusal f r (x .refusal)))
+
 -- the remarks decide first, then 10, 11 and 12
 judged-is : (f : Front) (r : Rows) → r ≡ makeRows (rowsOf r) → (o : Out Remarks) → Numbered o → judged f r (remarksAnswer o) ≡ result (next o (settled f r))
-unfolding judged
-judged-is f r kept (refuse n) h = rw (ne-eqb n 0 (λ e. omega arith))
+unfolding lastRefusal
+judged-is f r kept (refuse n) h = let k = ne-eqb n 0 (λ e. omega arith) in rw (k, k)
 judged-is f r kept (taken x) h = went
   where
     whole : recordOf f r (remarksAnswer (taken x)) ≡ makeRecord (f .addresses) (f .filing) (f .title) (rowsOf r) x
@@ -63,11 +70,23 @@ module _ (f : Front) (m : List ℕ) (r : RowsRead) (h : RowsHeld m r) where
   unfolding readBelow
   rows-refused n = rw (h .says, ne-eqb (r .refusal) 0 n)
 
-  pub rows-read : r .refusal ≡ 0 → judged f (r .rows) (remarksAnswer (readRemarks (pick (r .closed) finished (more (lines (drop (r .next) m)))))) ≡ result (readBelow f (lines m))
-  unfolding readBelow
-  rows-read z =
-      let after : After = pick (r .closed) finished (more (lines (drop (r .next) m))) in
-      rw (h .says, z) (judged-is f (r .rows) (h .kept .zeros) (readRemarks after) (remarks-numbered after))
+  -- x is read of what stands behind them, from k on, and n is the refusal that is left then
+  module _ (z : r .refusal ≡ 0) {k : ℕ} (there : Reached m (drop (r .next) m) k) (x : RemarksRead) (says : x ≡ remarksAnswer (readRemarks (pick (r .closed) finished (more (lines (take (length m - k) (drop k m)))))))
+      (n : ℕ) (last : n ≡ lastRefusal f (r .rows) (x .refusal)) where
+    behind : x ≡ remarksAnswer (readRemarks (pick (r .closed) finished (more (lines (drop (r .next) m)))))
+    behind = says ∙ ap (λ (p : List ℕ). remarksAnswer (readRemarks (pick (r .closed) finished (more (lines p))))) (part-all k m ∙ there .left)
+
+    read-below : judged f (r .rows) x ≡ result (readBelow f (lines m))
+    unfolding readBelow
+    read-below =
+        let after : After = pick (r .closed) finished (more (lines (drop (r .next) m))) in
+        ap (judged f (r .rows)) behind ∙ rw (h .says, z) (judged-is f (r .rows) (h .kept .zeros) (readRemarks after) (remarks-numbered after))
+
+    pub below-refused : (n ≡ 0 → ⊥) → refused n ≡ result (readBelow f (lines m))
+    below-refused e = rw (← last, ne-eqb n 0 e) at read-below
+
+    pub below-accepted : n ≡ 0 → accepted (recordOf f (r .rows) x) ≡ result (readBelow f (lines m))
+    below-accepted e = rw (← last, eq-eqb n 0 e) at read-below
 
 -- the front of the message m gave this answer
 module _ (m : List ℕ) (few : length m ≤ longest) (r : FrontRead) (h : FrontHeld m r) where
@@ -75,9 +94,9 @@ module _ (m : List ℕ) (few : length m ≤ longest) (r : FrontRead) (h : FrontH
   unfolding reading
   front-refuses n = rw (le-leb (length m) longest few, front-is (lines m), h .says, ne-eqb (r .refusal) 0 n)
 
-  pub front-goes-on : r .refusal ≡ 0 → result (readBelow (r .front) (lines (drop (r .next) m))) ≡ reading m
+  pub front-goes-on : r .refusal ≡ 0 → result (readBelow (r .front) (lines (take (length m - r .next) (drop (r .next) m)))) ≡ reading m
   unfolding reading
-  front-goes-on z = rw (le-leb (length m) longest few, front-is (lines m), h .says, z)
+  front-goes-on z = rw (part-all (r .next) m, le-leb (length m) longest few, front-is (lines m), h .says, z)
 
 pub too-long : (m : List ℕ) → longest < length m → refused 1 ≡ reading m
 unfolding reading

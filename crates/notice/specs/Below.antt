@@ -8,12 +8,11 @@ use Rattle.body.specs.Rows.{mostRows, rowsOf, latest, readRows}
 use Rattle.body.specs.Remarks.{readRemarks}
 use Rattle.remarks.specs.declared.RemarksRead.{RemarksRead}
 use Rattle.front.specs.declared.Front.{Front}
-use Rattle.notice.specs.declared.Reading.{Reading}
 use Rattle.notice.specs.declared.Record.{Record}
 use Rattle.front.specs.Front.{headingOf}
 use Rattle.text.specs.Out.{Out, next}
 use Rattle.notice.specs.Record.{makeRecord}
-use Rattle.notice.specs.Reading.{agreeing, accepted, refused}
+use Rattle.notice.specs.Reading.{agreeing}
 
 -- what is read below the front, and whether it agrees with it
 unfoldable pub readBelow : Front → List (List ℕ) → Out Record
@@ -31,9 +30,10 @@ agreement f r =
     11)
     10
 
+-- the record that the parts make
 abbrev pub recordOf : Front → Rows → RemarksRead → Record
 recordOf f r x = record { addresses = f .addresses; filing = f .filing; title = f .title; rows = r; items = x .items; language = x .language }
 
--- the answer to a message whose front and rows are read, and whose remarks gave this answer
-unfoldable pub judged : Front → Rows → RemarksRead → Reading
-judged f r x = pick (eqb (x .refusal) 0) (pick (eqb (agreement f r) 0) (accepted (recordOf f r x)) (refused (agreement f r))) (refused (x .refusal))
+-- the refusal of parts of which the remarks gave this one: it comes first
+unfoldable pub lastRefusal : Front → Rows → ℕ → ℕ
+lastRefusal f r n = pick (eqb n 0) (agreement f r) n

@@ -3,21 +3,19 @@
 ghost use mathlib.Core.Path.{_≡_};
 ghost use mathlib.Core.Bool.{true};
 ghost use lib.Dec.{leb};
-ghost use lib.ListN.{length, drop};
-ghost use Rattle.text.specs.Choice.{pick, _and_};
-ghost use Rattle.text.specs.Lines.{lines};
+ghost use lib.ListN.{length};
+ghost use Rattle.text.specs.Choice.{_and_};
 ghost use Rattle.text.specs.Put.{Put};
-ghost use Rattle.body.specs.Rows.{finished, more, validRows};
-ghost use Rattle.body.specs.Remarks.{readRemarks, holdsItems, holdsLanguage};
+ghost use Rattle.body.specs.Rows.{validRows};
+ghost use Rattle.body.specs.Remarks.{holdsItems, holdsLanguage};
 ghost use Rattle.sameness.specs.Same.{sameRows, sameItems, sameLanguage};
 ghost use Rattle.notice.specs.Same.{SaysSame, sameRecord};
 ghost use Rattle.notice.specs.Record.{blankRecord, validRecord};
 ghost use Rattle.notice.specs.Notice.{noticeText};
 ghost use Rattle.notice.specs.Writing.{partsText, Wrote};
 ghost use Rattle.notice.specs.Rewriting.{Rewrote};
-ghost use Rattle.notice.specs.Reading.{refused, result, reading};
-ghost use Rattle.remarks.specs.Held.{remarksAnswer};
-ghost use Rattle.notice.specs.Below.{agreement, judged, readBelow};
+ghost use Rattle.notice.specs.Reading.{accepted, refused, reading};
+ghost use Rattle.notice.specs.Below.{agreement, lastRefusal, recordOf};
 use body::Items;
 use body::Language;
 use body::Rows;
@@ -76,17 +74,6 @@ pub struct Written {
 
 // ---- Reading
 
-// What stands behind the rows: nothing where `)` closed them, else the remarks from `next` on.
-fn behind_rows(m: &[u8], closed: bool, next: usize) -> RemarksRead
-    ensures { λ r. ⌜ r ≡ remarksAnswer (readRemarks (pick closed finished (more (lines (drop next (now (m .entry))))))) ⌝ }
-{
-    if closed {
-        return no_remarks(0);
-    }
-    let at = place(m, next);
-    read_remarks(&m[at..])
-}
-
 // 10, 11, 12 in that order, or 0 where the lines agree.
 fn agreement(front: Front, rows: Rows) -> u8
     ensures { λ r. ⌜ r ≡ agreement front rows ⌝ }
@@ -137,17 +124,20 @@ fn refused(refusal: u8) -> Reading
     Reading { refusal, record }
 }
 
-// The answer to a message whose lines fit but for the remarks, which may not.
-fn judged(front: Front, rows: Rows, remarks: RemarksRead) -> Reading
-    ensures { λ r. ⌜ r ≡ judged front rows remarks ⌝ }
+// The refusal of a message whose front and rows fit: that of its remarks first, then 10, 11, 12.
+fn last_refusal(front: Front, rows: Rows, remarks: u8) -> u8
+    ensures { λ r. ⌜ r ≡ lastRefusal front rows remarks ⌝ }
 {
-    if remarks.refusal != 0 {
-        return refused(remarks.refusal);
+    if remarks != 0 {
+        return remarks;
     }
-    let refusal = agreement(front, rows);
-    if refusal != 0 {
-        return refused(refusal);
-    }
+    agreement(front, rows)
+}
+
+// The answer to a message whose parts fit and agree.
+fn accepted(front: Front, rows: Rows, remarks: RemarksRead) -> Reading
+    ensures { λ r. ⌜ r ≡ accepted (recordOf front rows remarks) ⌝ }
+{
     let addresses = front.addresses;
     let filing = front.filing;
     let title = front.title;
@@ -166,37 +156,37 @@ fn judged(front: Front, rows: Rows, remarks: RemarksRead) -> Reading
     }
 }
 
-// The rows and what stands behind them.
-fn below(front: Front, m: &[u8]) -> Reading
-    ensures { λ r. ⌜ r ≡ result (readBelow front (lines (now (m .entry)))) ⌝ }
-{
-    let read = read_rows(m);
-    if read.refusal != 0 {
-        return refused(read.refusal);
-    }
-    let remarks = behind_rows(m, read.closed, read.next);
-    let rows = read.rows;
-    judged(front, rows, remarks)
-}
-
 const LONGEST: usize = 4096;
 
 const TOO_LONG: u8 = 1;
 
-// Reads a message: 1 first, then line by line, where the first line that does not fit decides; 10, 11, 12 at the end.
+// Reads a message: 1 first, then line by line, where the first line that does not fit decides; 10, 11, 12 at the end. The parts meet here, so that
+// none is handed on from answer to answer.
 pub fn read(message: &[u8]) -> Reading
     ensures { λ r. ⌜ r ≡ reading (now (message .entry)) ⌝ }
 {
     if LONGEST < message.len() {
         return refused(TOO_LONG);
     }
-    let read = read_front(message);
-    if read.refusal != 0 {
-        return refused(read.refusal);
+    let opening = read_front(message);
+    if opening.refusal != 0 {
+        return refused(opening.refusal);
     }
-    let front = read.front;
-    let at = read.next;
-    below(front, &message[at..])
+    let front = opening.front;
+    let at = opening.next;
+    let below = &message[at..];
+    let block = read_rows(below);
+    if block.refusal != 0 {
+        return refused(block.refusal);
+    }
+    let rows = block.rows;
+    let next = place(below, block.next);
+    let remarks = read_remarks(block.closed, &below[next..]);
+    let refusal = last_refusal(front, rows, remarks.refusal);
+    if refusal != 0 {
+        return refused(refusal);
+    }
+    accepted(front, rows, remarks)
 }
 
 // ---- Writing

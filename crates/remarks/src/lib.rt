@@ -4,12 +4,12 @@ ghost use mathlib.Core.Path.{_≡_};
 ghost use mathlib.Core.List.{[]};
 ghost use Prim.Native.Nat.{_<_};
 ghost use lib.ListN.{length};
-ghost use Rattle.text.specs.Choice.{_and_, isEmpty};
+ghost use Rattle.text.specs.Choice.{pick, _and_, isEmpty};
 ghost use Rattle.text.specs.Piece.{canonical, verbatim};
 ghost use Rattle.text.specs.Lines.{lines, opened, under};
 ghost use Rattle.text.specs.Put.{Put};
 ghost use Rattle.items.specs.Awareness.{awarenessPieces};
-ghost use Rattle.body.specs.Rows.{more};
+ghost use Rattle.body.specs.Rows.{finished, more};
 ghost use Rattle.body.specs.Remarks.{itemsOf, languageOf, holdsItems, makeItems, makeLanguage, holdsLanguage, languageLines, remarkLines, readRemarks};
 ghost use Rattle.remarks.specs.Held.{noRemarks, remarksAnswer, noTail, ending, lastItems, lastLanguage, nextLanguage, itemsStep};
 use awareness::read_awareness;
@@ -232,10 +232,13 @@ fn items_step(fits: bool, count: u8, closed: bool, rest: &[u8]) -> Tail
     no_tail(8)
 }
 
-// What stands below the empty line that ended the rows, line by line.
-pub fn read_remarks(m: &[u8]) -> RemarksRead
-    ensures { λ r. ⌜ r ≡ remarksAnswer (readRemarks (more (lines (now (m .entry))))) ⌝ }
+// What stands behind the rows: nothing where `)` closed them, else `m` below the empty line that ended them, line by line.
+pub fn read_remarks(closed: bool, m: &[u8]) -> RemarksRead
+    ensures { λ r. ⌜ r ≡ remarksAnswer (readRemarks (pick closed finished (more (lines (now (m .entry)))))) ⌝ }
 {
+    if closed {
+        return no_remarks(0);
+    }
     if m.len() == 0 {
         return no_remarks(4);
     }

@@ -11,13 +11,21 @@ no-remarks-requires : tie.Need-no-remarks-requires
 no-remarks-requires c κs = search needs
 
 returns : tie.Need-returns
-returns c = c .no-remarks .ensures ∙ nothing-below (c .before .before .before .args .m .now) (c .before .if1 .taken)
+returns c = rw (c .before .if1 .taken) (c .no-remarks .ensures)
+
+no-remarks-requires-2 : tie.Need-no-remarks-requires-2
+no-remarks-requires-2 c κs = search needs
+
+returns-2 : tie.Need-returns-2
+returns-2 c =
+    let l = c .before .before in
+    rw (l .if1 .left) (c .no-remarks2 .ensures ∙ nothing-below (l .before .before .args .m .now) (c .before .if2 .taken))
 
 first-line-requires : tie.Need-first-line-requires
 first-line-requires c κs = search needs
 
 slice-aggregate-text-size : tie.Need-slice-aggregate-text-size
-slice-aggregate-text-size c = let s = ap (λ l. l .size) (c .before .first-line .ensures) in let w = size-within (c .before .before .before .before .args .m .now) in rw length-take (omega arith)
+slice-aggregate-text-size c = let s = ap (λ l. l .size) (c .before .first-line .ensures) in let w = size-within (c .before .before .before .before .before .args .m .now) in rw length-take (omega arith)
 
 text-size-requires : tie.Need-text-size-requires
 text-size-requires c κs = search needs
@@ -25,7 +33,7 @@ text-size-requires c κs = search needs
 slice-aggregate-read-awareness : tie.Need-slice-aggregate-read-awareness
 slice-aggregate-read-awareness c =
     let p = c .before .before .before in
-    let m = p .before .before .before .args .m .now in
+    let m = p .before .before .before .before .args .m .now in
     let s = ap (λ l. l .size) (p .first-line .ensures) in
     let w = size-within m in
     let t = text-within m (p .first-line .result) (p .first-line .ensures) (c .before .text-size .result) (c .before .text-size .ensures) in
@@ -38,14 +46,14 @@ sub-items-step : tie.Need-sub-items-step
 sub-items-step c =
     let p = c .before .before .before .before in
     let s = ap (λ l. l .next) (p .first-line .ensures) in
-    let w = line-within (p .before .before .before .args .m .now) in
+    let w = line-within (p .before .before .before .before .args .m .now) in
     omega arith
 
 part-items-step-start : tie.Need-part-items-step-start
 part-items-step-start c =
     let p = c .before .before .before .before in
     let s = ap (λ l. l .next) (p .first-line .ensures) in
-    let w = line-within (p .before .before .before .args .m .now) in
+    let w = line-within (p .before .before .before .before .args .m .now) in
     omega arith
 
 part-items-step-end : tie.Need-part-items-step-end
@@ -54,24 +62,26 @@ part-items-step-end c = search needs
 items-step-requires : tie.Need-items-step-requires
 items-step-requires c κs = search needs
 
-no-remarks-requires-2 : tie.Need-no-remarks-requires-2
-no-remarks-requires-2 c κs = search needs
-
-returns-2 : tie.Need-returns-2
-returns-2 c =
-    let q = c .before .before .before in
-    let s = q .before .before .before .before in
-    let p = s .before .before in
-    let m = p .before .before .before .args .m .now in
-    c .no-remarks2 .ensures ∙ tail-refused m (p .before .if1 .left) (p .first-line .result) (p .first-line .ensures) (s .text-size .result) (s .text-size .ensures) (q .before .before .read-awareness .ensures) (q .items-step .ensures) (c .before .if2 .taken)
+no-remarks-requires-3 : tie.Need-no-remarks-requires-3
+no-remarks-requires-3 c κs = search needs
 
 returns-3 : tie.Need-returns-3
 returns-3 c =
+    let q = c .before .before .before in
+    let s = q .before .before .before .before in
+    let p = s .before .before in
+    let l = p .before .before in
+    let m = l .before .before .args .m .now in
+    rw (l .if1 .left) (c .no-remarks3 .ensures ∙ tail-refused m (p .before .if2 .left) (p .first-line .result) (p .first-line .ensures) (s .text-size .result) (s .text-size .ensures) (q .before .before .read-awareness .ensures) (q .items-step .ensures) (c .before .if3 .taken))
+
+returns-4 : tie.Need-returns-4
+returns-4 c =
     let q = c .before .before .before .before in
     let s = q .before .before .before .before in
     let p = s .before .before in
-    let m = p .before .before .before .args .m .now in
-    tail-joined m (p .before .if1 .left) (p .first-line .result) (p .first-line .ensures) (s .text-size .result) (s .text-size .ensures) (q .before .before .read-awareness .ensures) (q .items-step .ensures) (c .before .before .if2 .left)
+    let l = p .before .before in
+    let m = l .before .before .args .m .now in
+    rw (l .if1 .left) (tail-joined m (p .before .if2 .left) (p .first-line .result) (p .first-line .ensures) (s .text-size .result) (s .text-size .ensures) (q .before .before .read-awareness .ensures) (q .items-step .ensures) (c .before .before .if3 .left))
 
 pub read-remarks-spec : {M : Type 1} → statement M
 read-remarks-spec =
@@ -79,6 +89,8 @@ read-remarks-spec =
     (tie.spec
     no-remarks-requires
     returns
+    no-remarks-requires-2
+    returns-2
     first-line-requires
     slice-aggregate-text-size
     text-size-requires
@@ -88,6 +100,6 @@ read-remarks-spec =
     part-items-step-start
     part-items-step-end
     items-step-requires
-    no-remarks-requires-2
-    returns-2
-    returns-3)
+    no-remarks-requires-3
+    returns-3
+    returns-4)

@@ -1,0 +1,19 @@
+use Rattle.notice.specs.Below.{lastRefusal}
+use borrow.Author.Tests.{eq-eqb, ne-eqb}
+use borrow.Author.Needs.{needs}
+use Rattle.notice.proofs.last_refusal.Statement.{statement}
+use Rattle.notice.proofs.last_refusal.Tie as tie
+
+returns : tie.Need-returns
+unfolding lastRefusal
+returns c = rw (ne-eqb _ _ (c .if1 .taken))
+
+agreement-requires : tie.Need-agreement-requires
+agreement-requires c κs = search needs
+
+returns-2 : tie.Need-returns-2
+unfolding lastRefusal
+returns-2 c = rw (eq-eqb _ _ (c .before .if1 .left)) (c .agreement .ensures)
+
+pub last-refusal-spec : {M : Type 1} → statement M
+last-refusal-spec = tie.close (tie.spec returns agreement-requires returns-2)
