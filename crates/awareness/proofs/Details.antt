@@ -6,7 +6,7 @@ use mathlib.Core.Bool.{Bool, true, false}
 use native.Mathlib.Omega.{arith}
 use lib.ListN.{drop}
 use Rattle.text.specs.Choice.{pick, _and_}
-use Rattle.text.specs.Read.{Got, misfit, got, readText, readGap}
+use Rattle.text.specs.Read.{Got, misfit, got, guard, readText, readGap, readIf}
 use Rattle.text.specs.Names.{readName}
 use Rattle.text.specs.Numbers.{readDigits, readNumber}
 use Rattle.text.specs.Held.{Held, none, readWord}
@@ -14,6 +14,7 @@ use Rattle.text.specs.Laws.Held.{held-text}
 use Rattle.text.specs.Laws.Numbers.{number-laws, digits-laws}
 use Rattle.text.specs.Laws.Words.{shared}
 use Rattle.text.specs.declared.Found.{Found}
+use Rattle.items.specs.Item.{validItem}
 use Rattle.items.specs.ItemText.{edgeName}
 use Rattle.items.specs.ReadItem.{edges, sayings, saying, taxiSayings, taxiSaying}
 use Rattle.runway.specs.Held.{HeldRunway}
@@ -86,3 +87,18 @@ unread {m} {g} {r} e h = record {
   says = h ∙ sym (ap (λ (q : ItemFound). pick (q .fits) (got (q .item) (drop (q .next) m)) misfit) e);
   blank = e ∙ sym (ap (λ (q : ItemFound). pick (q .fits) q noItem) e);
 }
+
+-- an item that is read, and held against what an item may be
+module _ (f : List ℕ → Got Item) (m : List ℕ) where
+  pub none-valid : f m ≡ misfit → readIf validItem f m ≡ misfit
+  none-valid e = rw e
+
+  module _ {i : Item} {k : List ℕ} (e : f m ≡ got i k) {t : Bool} (v : t ≡ validItem i) where
+    tested : readIf validItem f m ≡ guard t (got i k)
+    tested = rw (e, v)
+
+    pub is-valid : t ≡ true → readIf validItem f m ≡ got i k
+    is-valid h = tested ∙ rw h
+
+    pub not-valid : t ≡ false → readIf validItem f m ≡ misfit
+    not-valid h = tested ∙ rw h

@@ -1,21 +1,24 @@
 -- The item behind each opening, step by step.
-use Prim.Native.Nat.{ℕ, _≤_}
+use Prim.Native.Nat.{ℕ, zero, suc, _-_, _≤_}
 use mathlib.Core.Path.{_≡_, refl, sym, _∙_, ap}
-use mathlib.Core.List.{List, [], _∷_}
+use mathlib.Core.List.{List, [], _∷_, _++_}
 use mathlib.Core.Bool.{Bool, true, false, not}
 use native.Mathlib.Omega.{arith}
+use lib.Dec.{leb}
 use lib.ListN.{length, drop, replicate}
-use borrow.Author.Tests.{leb-true}
-use Rattle.text.specs.Choice.{pick, _and_, isEmpty}
+use borrow.Author.Tests.{leb-true, eq-eqb}
+use Rattle.text.specs.Choice.{pick, _and_, all, isEmpty}
 use Rattle.text.specs.Piece.{bytes}
-use Rattle.text.specs.Read.{Got, misfit, got, guard, andThen, readText, readAs, readGap, readBefore}
-use Rattle.text.specs.Names.{readName}
+use Rattle.text.specs.Read.{Got, misfit, got, guard, andThen, readText, readAs, readIf, readGap, readBefore}
+use Rattle.text.specs.Names.{isName, past, readName}
+use Rattle.text.specs.Arrays.{isZero}
 use Rattle.text.specs.Held.{Held, readWord}
-use Rattle.text.specs.Laws.Base.{and-2, then-got, carry}
+use Rattle.text.specs.Laws.Base.{and-1, and-2, and-i, then-got, carry}
+use Rattle.text.specs.Laws.Arrays.{pad-length, replicate-zeros}
 use Rattle.text.specs.declared.Found.{Found}
 use Rattle.items.specs.declared.Item.{Item}
-use Rattle.items.specs.Item.{validItem}
-use Rattle.items.specs.ReadItem.{taxiSayings, taxiSaying, taxiItem, readSomeTaxiways, readTaxiways, readTaxiForm, isApron, readApron, apronItem, readApronForm, openings, openingName, readBareForm, readForm, readBody, readItem}
+use Rattle.items.specs.Item.{letterJ, letterP, letterR, onRunway, runwayFits, amountFits, edgeFits, countFits, slotsFit, taxiwaysFit, nameFits, numbersFit, validItem}
+use Rattle.items.specs.ReadItem.{taxiSayings, taxiSaying, taxiItem, readSomeTaxiways, readTaxiways, readTaxiForm, isApron, readApron, apronItem, readApronForm, openings, openingName, bareItem, readBareForm, readForm, readBody, readItem}
 use Rattle.awareness.specs.Held.{HeldItem, noItem}
 use Rattle.awareness.specs.Named.{inSlots, bareFound}
 use Rattle.awareness.specs.declared.ItemFound.{ItemFound}
@@ -88,47 +91,81 @@ module _ (m : List ℕ) where
     unfolding readApron
     short-apron = leb-true (length w) 16 (and-2 _ _ (name-passed m isApron e))
 
--- behind words that are the whole text
-pub held-bare : {m : List ℕ} (l i : ℕ) {r : ItemFound} → i ≤ length m → r ≡ bareFound l i → HeldItem m (readBareForm l (drop i m)) r
+-- its item is valid
+past-zeros : (w : List ℕ) (n : ℕ) → all isName w ≡ true → all isZero (past isName (w ++ replicate n 0)) ≡ true
+unfolding past
+past-zeros [] zero h = refl
+past-zeros [] (suc n) h = and-i refl (replicate-zeros 0 isZero refl n)
+past-zeros (x ∷ w) n h = rw (and-1 (isName x) (all isName w) h) (past-zeros w n (and-2 (isName x) (all isName w) h))
+
+pub apron-valid : (w : List ℕ) → isApron w ≡ true → all isName w ≡ true → validItem (apronItem w) ≡ true
+unfolding validItem numbersFit runwayFits amountFits edgeFits countFits onRunway taxiwaysFit slotsFit nameFits _and_
+apron-valid w h n =
+    let l = pad-length 16 0 w (leb-true (length w) 16 (and-2 (leb 1 (length w)) (leb (length w) 16) h)) in
+    and-i (eq-eqb _ 16 l) (past-zeros w (16 - length w) n)
+
+-- behind words that are the whole text: their items are valid
+pub bare-valid : (validItem (bareItem letterJ) ≡ true) × (validItem (bareItem letterP) ≡ true) × (validItem (bareItem letterR) ≡ true)
+unfolding validItem numbersFit runwayFits amountFits edgeFits countFits onRunway taxiwaysFit slotsFit nameFits past _and_
+bare-valid = (refl, refl, refl)
+
+pub held-bare : {m : List ℕ} (l i : ℕ) {r : ItemFound} → i ≤ length m → validItem (bareItem l) ≡ true → r ≡ bareFound l i → HeldItem m (readIf validItem (readBareForm l) (drop i m)) r
 unfolding readBareForm
-held-bare {m} l i {r} h e = record {
+held-bare {m} l i {r} h v e = record {
   within = rw e h;
-  says = sym (ap (λ (q : ItemFound). pick (q .fits) (got (q .item) (drop (q .next) m)) misfit) e);
+  says = ap (λ (t : Bool). guard t (got (bareItem l) (drop i m))) v ∙ sym (ap (λ (q : ItemFound). pick (q .fits) (got (q .item) (drop (q .next) m)) misfit) e);
   blank = e ∙ sym (ap (λ (q : ItemFound). pick (q .fits) q noItem) e);
 }
 
 -- an item without its full stop
 module _ (m : List ℕ) where
-  pub no-opening : readName openingName openings m ≡ misfit → readBody m ≡ misfit
+  pub no-opening : readName openingName openings m ≡ misfit → readIf validItem readBody m ≡ misfit
   unfolding readBody
   no-opening e = rw e
 
-  pub opened : {a : ℕ} {k : List ℕ} → readName openingName openings m ≡ got a k → readBody m ≡ readForm a k
+  body-opened : {a : ℕ} {k : List ℕ} → readName openingName openings m ≡ got a k → readBody m ≡ readForm a k
   unfolding readBody
-  opened {a} {k} e = rw e (go (readForm a k))
+  body-opened {a} {k} e = rw e (go (readForm a k))
     where
       go : (g : Got Item) → andThen {A = ℕ × Item} (andThen g (λ b r. got (a, b) r)) (λ p r. got (p .1) r) ≡ g
       go misfit = refl
       go (got i r) = refl
 
--- the answers that the code has of an item: what stands before its full stop, the stop, and whether it is valid
-module _ {l : List ℕ} (at : ℕ) {b : ItemFound} (h : HeldItem l (readBody (drop at l)) b) where
+  pub opened : {a : ℕ} {k : List ℕ} → readName openingName openings m ≡ got a k → readIf validItem readBody m ≡ readIf validItem (readForm a) k
+  opened e = rw (body-opened e)
+
+-- a test comes before a text as well as behind it
+if-before : {A : Type 0} (p : A → Bool) (f : List ℕ → Got A) (t m : List ℕ) → readIf p (readBefore f t) m ≡ readBefore (readIf p f) t m
+if-before {A} p f t m = go (f m)
+  where
+    left : (a : A) (g : Got (Unit {0})) → andThen (andThen g (λ _ r. got a r)) (λ a r. guard (p a) (got a r)) ≡ andThen g (λ _ r. guard (p a) (got a r))
+    left a misfit = refl
+    left a (got u r) = refl
+
+    none : (g : Got (Unit {0})) → andThen {B = A} g (λ _ r. misfit) ≡ misfit
+    none misfit = refl
+    none (got u r) = refl
+
+    right : (b : Bool) (a : A) (k : List ℕ) → andThen (readText t k) (λ _ r. guard b (got a r)) ≡ andThen (guard b (got a k)) (λ a k. andThen (readText t k) (λ _ r. got a r))
+    right true a k = refl
+    right false a k = none (readText t k)
+
+    go : (g : Got A) → andThen (andThen g (λ a k. andThen (readText t k) (λ _ r. got a r))) (λ a r. guard (p a) (got a r)) ≡ andThen (andThen g (λ a r. guard (p a) (got a r))) (λ a k. andThen (readText t k) (λ _ r. got a r))
+    go misfit = refl
+    go (got a k) = left a (readText t k) ∙ right (p a) a k
+
+stop-last : (m : List ℕ) → readItem m ≡ readBefore (readIf validItem readBody) (bytes ".") m
+unfolding readItem
+stop-last m = if-before validItem readBody (bytes ".") m
+
+-- the answers that the code has of an item: what stands before its full stop, and the stop
+module _ {l : List ℕ} (at : ℕ) {b : ItemFound} (h : HeldItem l (readIf validItem readBody (drop at l)) b) where
   pub no-body : b .fits ≡ false → readItem (drop at l) ≡ misfit
-  unfolding readItem
-  no-body x = rw (misfit-of b h x)
+  no-body x = stop-last (drop at l) ∙ rw (misfit-of b h x)
 
   module _ (x : b .fits ≡ true) {w : Found} (s : Held l (readWord (bytes ".") 0 (drop (b .next) l)) w) where
     pub no-stop : w .fits ≡ false → readItem (drop at l) ≡ misfit
-    unfolding readItem
-    no-stop y = rw (item-of b h x, text-off (bytes ".") (drop (b .next) l) 0 s y)
+    no-stop y = stop-last (drop at l) ∙ rw (item-of b h x, text-off (bytes ".") (drop (b .next) l) 0 s y)
 
-    module _ (y : w .fits ≡ true) {t : Bool} (e : t ≡ validItem (b .item)) where
-      stopped : readItem (drop at l) ≡ guard t (got (b .item) (drop (w .next) l))
-      unfolding readItem
-      stopped = rw (item-of b h x, text-there (bytes ".") (drop (b .next) l) 0 s y, e)
-
-      pub invalid : t ≡ false → readItem (drop at l) ≡ misfit
-      invalid z = stopped ∙ rw z
-
-      pub valid : t ≡ true → readItem (drop at l) ≡ got (b .item) (drop (w .next) l)
-      valid z = stopped ∙ rw z
+    pub stopped : w .fits ≡ true → readItem (drop at l) ≡ got (b .item) (drop (w .next) l)
+    stopped y = stop-last (drop at l) ∙ rw (item-of b h x, text-there (bytes ".") (drop (b .next) l) 0 s y)

@@ -10,9 +10,9 @@ ghost use Rattle.text.specs.Held.{Spanned, Held};
 ghost use Rattle.text.specs.Names.{isName, readRun, readName};
 ghost use Rattle.text.specs.Numbers.{readNumber, number};
 ghost use Rattle.text.specs.Piece.{bytes};
-ghost use Rattle.text.specs.Read.{readAs, readGap, misfit};
+ghost use Rattle.text.specs.Read.{readAs, readIf, readGap, misfit};
 ghost use Rattle.items.specs.Awareness.{wholeAwareness};
-ghost use Rattle.items.specs.Item.{isTaxiway};
+ghost use Rattle.items.specs.Item.{isTaxiway, validItem};
 ghost use Rattle.items.specs.ItemText.{edgeName};
 ghost use Rattle.items.specs.ReadItem.{openings, openingName, sayings, saying, taxiSayings, taxiSaying, edges, readLength, readBank, readDetail, readRunwayForm, runwayItem, readTaxiway, readSomeTaxiways, readTaxiForm, isApron, apronItem, readApronForm, readForm, readBody};
 ghost use Rattle.awareness.specs.Held.{Reads, HeldDetail, HeldItem, noItem, itemsAnswer};
@@ -280,9 +280,9 @@ fn runway_item(letter: u8, number: u8, side: u8, edge: u8, amount: u16) -> Item
     i
 }
 
-// The item behind RWY, without its full stop.
+// The valid item behind RWY, without its full stop.
 fn read_runway_item(s: &[u8], i: usize) -> ItemFound
-    ensures { λ r. ⌜ HeldItem (now (s .entry)) (readRunwayForm (drop i (now (s .entry)))) r ⌝ }
+    ensures { λ r. ⌜ HeldItem (now (s .entry)) (readIf validItem readRunwayForm (drop i (now (s .entry)))) r ⌝ }
 {
     let g = word(s, i, b" ", 0);
     if !g.fits {
@@ -300,9 +300,13 @@ fn read_runway_item(s: &[u8], i: usize) -> ItemFound
     if !d.fits {
         return no_item();
     }
+    let item = runway_item(y.value as u8, w.number, w.side, d.edge, d.amount);
+    if !valid_item(item) {
+        return no_item();
+    }
     ItemFound {
         fits: true,
-        item: runway_item(y.value as u8, w.number, w.side, d.edge, d.amount),
+        item,
         next: d.next,
     }
 }
@@ -392,9 +396,9 @@ fn taxiways(s: &[u8], i: usize) -> TaxiwaysFound
     }
 }
 
-// The item behind TWY, without its full stop.
+// The valid item behind TWY, without its full stop.
 fn read_taxi_item(s: &[u8], i: usize) -> ItemFound
-    ensures { λ r. ⌜ HeldItem (now (s .entry)) (readTaxiForm (drop i (now (s .entry)))) r ⌝ }
+    ensures { λ r. ⌜ HeldItem (now (s .entry)) (readIf validItem readTaxiForm (drop i (now (s .entry)))) r ⌝ }
 {
     let t = taxiways(s, i);
     if t.count == 0 {
@@ -409,6 +413,9 @@ fn read_taxi_item(s: &[u8], i: usize) -> ItemFound
     item.letter = y.value as u8;
     item.count = t.count;
     item.taxiways = names;
+    if !valid_item(item) {
+        return no_item();
+    }
     ItemFound {
         fits: true,
         item,
@@ -439,9 +446,9 @@ fn apron_item(name: &[u8]) -> Item
     i
 }
 
-// The item behind APRON, without its full stop.
+// The item behind APRON, without its full stop: what fits there is valid.
 fn read_apron_item(s: &[u8], i: usize) -> ItemFound
-    ensures { λ r. ⌜ HeldItem (now (s .entry)) (readApronForm (drop i (now (s .entry)))) r ⌝ }
+    ensures { λ r. ⌜ HeldItem (now (s .entry)) (readIf validItem readApronForm (drop i (now (s .entry)))) r ⌝ }
 {
     let name = gap_name(s, i);
     if !name.fits {
@@ -474,10 +481,10 @@ fn bare_item(letter: u8, i: usize) -> ItemFound
     }
 }
 
-// What the opening calls for, at the place behind it.
+// The valid item that the opening calls for, at the place behind it.
 fn read_form(opening: u32, s: &[u8], i: usize) -> ItemFound
     requires { ⌜ i ≤ length (now s) ⌝ }
-    ensures { λ r. ⌜ HeldItem (now (s .entry)) (readForm opening (drop i (now (s .entry)))) r ⌝ }
+    ensures { λ r. ⌜ HeldItem (now (s .entry)) (readIf validItem (readForm opening) (drop i (now (s .entry)))) r ⌝ }
 {
     match opening {
         OPENS_RUNWAY => read_runway_item(s, i),
@@ -489,9 +496,9 @@ fn read_form(opening: u32, s: &[u8], i: usize) -> ItemFound
     }
 }
 
-// An item without its full stop.
+// A valid item without its full stop.
 fn read_body(s: &[u8], i: usize) -> ItemFound
-    ensures { λ r. ⌜ HeldItem (now (s .entry)) (readBody (drop i (now (s .entry)))) r ⌝ }
+    ensures { λ r. ⌜ HeldItem (now (s .entry)) (readIf validItem readBody (drop i (now (s .entry)))) r ⌝ }
 {
     let o = opening(s, i);
     if !o.fits {
@@ -538,9 +545,6 @@ pub fn read_awareness(line: &[u8]) -> ItemsRead
             break 'items false;
         }
         let item = found.item;
-        if !valid_item(item) {
-            break 'items false;
-        }
         // from the last one back, up to one of a lower letter; in place, since a call would copy the array for each item
         let mut k = count;
         while 0 < k {

@@ -1,13 +1,14 @@
+use Prim.Native.Nat.{_-_}
 use mathlib.Core.Path.{refl, sym, _∙_, ap}
-use lib.ListN.{drop}
+use lib.ListN.{take, drop}
 use borrow.Author.Tests.{not-true, not-false}
 use Rattle.text.specs.Piece.{bytes}
 use Rattle.text.specs.Read.{got}
 use Rattle.items.specs.declared.Item.{Item}
-use Rattle.items.specs.ReadItem.{isApron, readApron}
-use Rattle.awareness.proofs.Details.{text-there, text-off, unread}
-use Rattle.awareness.proofs.Named.{no-name, right-name, wrong-name}
-use Rattle.awareness.proofs.Forms.{no-apron, apron-unsaid, apron-said, short-apron}
+use Rattle.items.specs.ReadItem.{isApron, readApron, readApronForm}
+use Rattle.awareness.proofs.Details.{text-there, text-off, unread, none-valid, is-valid}
+use Rattle.awareness.proofs.Named.{no-name, right-name, wrong-name, name-there, name-bytes}
+use Rattle.awareness.proofs.Forms.{no-apron, apron-unsaid, apron-said, apron-valid, short-apron}
 use borrow.Author.Needs.{needs}
 use Rattle.awareness.proofs.read_apron_item.Statement.{statement}
 use Rattle.awareness.proofs.read_apron_item.Tie as tie
@@ -24,7 +25,7 @@ returns c =
     let b3 = c .before .before .before in
     let a = b3 .before .before .args in
     let m = drop (a .i) (a .s .now) in
-    unread (c .no-item .ensures) (no-apron m (no-name isApron (a .s .now) m (b3 .gap-name .ensures) (not-true _ (c .before .if1 .taken))))
+    unread (c .no-item .ensures) (none-valid readApronForm m (no-apron m (no-name isApron (a .s .now) m (b3 .gap-name .ensures) (not-true _ (c .before .if1 .taken)))))
 
 sub-is-apron : tie.Need-sub-is-apron
 sub-is-apron c = search needs
@@ -48,7 +49,7 @@ returns-2 c =
     let b6 = b4 .before .before in
     let a = b6 .before .before .args in
     let m = drop (a .i) (a .s .now) in
-    unread (c .no-item2 .ensures) (no-apron m (wrong-name isApron (a .s .now) m (b6 .gap-name .ensures) (not-false _ (b4 .if1 .left)) (c .before .before .is-apron .ensures) (not-true _ (c .before .if2 .taken))))
+    unread (c .no-item2 .ensures) (none-valid readApronForm m (no-apron m (wrong-name isApron (a .s .now) m (b6 .gap-name .ensures) (not-false _ (b4 .if1 .left)) (c .before .before .is-apron .ensures) (not-true _ (c .before .if2 .taken)))))
 
 slice-aggregate-word : tie.Need-slice-aggregate-word
 slice-aggregate-word c = search needs
@@ -69,8 +70,8 @@ returns-3 c =
     let a = b8 .before .before .before .before .args in
     let s = a .s .now in
     let m = drop (a .i) s in
-    unread (c .no-item3 .ensures) (apron-unsaid m (right-name isApron s m (n .ensures) (not-false _ (b8 .if1 .left)) (b5 .before .is-apron .ensures) (not-false _ (b5 .if2 .left)))
-    (text-off (bytes " POOR") (drop (n .result .next) s) 0 (b3 .word .ensures) (not-true _ (c .before .if3 .taken))))
+    unread (c .no-item3 .ensures) (none-valid readApronForm m (apron-unsaid m (right-name isApron s m (n .ensures) (not-false _ (b8 .if1 .left)) (b5 .before .is-apron .ensures) (not-false _ (b5 .if2 .left)))
+    (text-off (bytes " POOR") (drop (n .result .next) s) 0 (b3 .word .ensures) (not-true _ (c .before .if3 .taken)))))
 
 sub-apron-item : tie.Need-sub-apron-item
 sub-apron-item c = search needs
@@ -100,10 +101,12 @@ returns-4 c =
     let a = b9 .before .before .before .before .args in
     let s = a .s .now in
     let m = drop (a .i) s in
+    let w = take (n .result .next - n .result .start) (drop (n .result .start) s) in
     record {
       within = b4 .word .ensures .within;
-      says = apron-said m (right-name isApron s m (n .ensures) (not-false _ (b9 .if1 .left)) (b6 .before .is-apron .ensures) (not-false _ (b6 .if2 .left)))
-          (text-there (bytes " POOR") (drop (n .result .next) s) 0 (b4 .word .ensures) (not-false _ (c .before .before .if3 .left)))
+      says = is-valid readApronForm m (apron-said m (right-name isApron s m (n .ensures) (not-false _ (b9 .if1 .left)) (b6 .before .is-apron .ensures) (not-false _ (b6 .if2 .left)))
+          (text-there (bytes " POOR") (drop (n .result .next) s) 0 (b4 .word .ensures) (not-false _ (c .before .before .if3 .left))))
+          (sym (apron-valid w (sym (b6 .before .is-apron .ensures) ∙ not-false _ (b6 .if2 .left)) (name-bytes m (name-there (n .ensures) (not-false _ (b9 .if1 .left)))))) refl
           ∙ ap (λ (i : Item). got i (drop (b4 .word .result .next) s)) (sym (c .apron-item .ensures));
       blank = refl;
     }

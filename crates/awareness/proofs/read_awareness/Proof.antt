@@ -11,7 +11,7 @@ use Rattle.text.specs.Choice.{pick}
 use Rattle.text.specs.Read.{misfit}
 use Rattle.items.specs.Awareness.{standsBehind, mostItems, wholeAwareness}
 use Rattle.awareness.specs.Held.{itemsAnswer}
-use Rattle.awareness.proofs.Forms.{no-body, no-stop, invalid, valid}
+use Rattle.awareness.proofs.Forms.{no-body, no-stop, stopped}
 use Rattle.awareness.proofs.Back.{back-on, back-off, back-lower}
 use Rattle.awareness.proofs.LineReading.{SoFar, begun, size, ends, full, stray, misplaced, goes-on}
 use borrow.Author.Needs.{needs}
@@ -45,9 +45,6 @@ slice-aggregate-word c = search needs
 word-requires : tie.Need-word-requires Inv-loop μ-loop Inv-items μ-items
 word-requires c κs = search needs
 
-valid-item-requires : tie.Need-valid-item-requires Inv-loop μ-loop Inv-items μ-items
-valid-item-requires c κs = search needs
-
 loop-holds : tie.Need-loop-holds Inv-loop μ-loop Inv-items μ-items
 loop-holds c = (search needs, refl)
 
@@ -76,10 +73,10 @@ loop-again : tie.Need-loop-again Inv-loop μ-loop Inv-items μ-items
 loop-again c =
     let b6 = c .before .before .before .before .before .before in
     let q = b6 .before in
-    let e3 = q .before .before .before .before .before .before .before .before in
+    let e3 = q .before .before .before .before .before .before in
     let l = e3 .before .before .before .before .before .items in (
       omega arith,
-      q .loop .inv .1 ∙ back-on (l .items) (q .loop .k) (e3 .before .before .read-body .result .item) _ (b6 .loop-test .taken) (omega (arith, size (l .inv))) (sym (c .before .may-follow .ensures) ∙ not-false _ (c .if7 .left)),
+      q .loop .inv .1 ∙ back-on (l .items) (q .loop .k) (e3 .before .before .read-body .result .item) _ (b6 .loop-test .taken) (omega (arith, size (l .inv))) (sym (c .before .may-follow .ensures) ∙ not-false _ (c .if6 .left)),
     )
 
 cast-items : tie.Need-cast-items Inv-loop μ-loop Inv-items μ-items
@@ -104,8 +101,7 @@ items-again : tie.Need-items-again Inv-loop μ-loop Inv-items μ-items
 items-again c =
     let o = c .before in
     let q = o .before in
-    let e5 = q .before in
-    let e4 = e5 .before .before .before in
+    let e4 = q .before .before in
     let w = e4 .before .before .word in
     let e3 = e4 .before .before .before .before in
     let r = e3 .before .before .read-body in
@@ -114,7 +110,7 @@ items-again c =
     let k = q .loop .k in
     let none : k ≤ 0 → standsBehind (take k (l .items)) (r .result .item) ≡ true = λ h. let z : k ≡ 0 = omega arith in rw z in
     goes-on (l .inv) (e2 .before .if1 .left) (e2 .if2 .left) (w .result .next)
-    (valid (l .at) (r .ensures) (not-false _ (e3 .if3 .left)) (w .ensures) (not-false _ (e4 .if4 .left)) (e5 .before .valid-item .ensures) (not-false _ (e5 .if5 .left)))
+    (stopped (l .at) (r .ensures) (not-false _ (e3 .if3 .left)) (w .ensures) (not-false _ (e4 .if4 .left)))
     (q .loop .inv .1 ∙ ⊎-elim (λ x. none (x .left))
     (λ x. back-lower (l .items) k (r .result .item) _ (x .0 .taken) (omega (arith, size (l .inv))) (q .loop .inv .0) (l .inv .order) (x .4 .taken)) (o .loop-test .came)) (c .spaces .ensures)
 
@@ -127,21 +123,19 @@ outcome c =
     (⊎-elim (λ w. rw (w .2) (ap itemsAnswer (sym (full s (w .0 .left) (w .1 .taken)))))
     (⊎-elim (λ w. rw (w .5) (ap itemsAnswer (sym (stray s (w .0 .left) (w .1 .left) (no-body (l .at) (w .2 .ensures) (not-true _ (w .4 .taken)))))))
     (⊎-elim (λ w. rw (w .9) (ap itemsAnswer (sym (stray s (w .0 .left) (w .1 .left) (no-stop (l .at) (w .2 .ensures) (not-false _ (w .4 .left)) (w .6 .ensures) (not-true _ (w .8 .taken)))))))
-    (⊎-elim (λ w. rw (w .12) (ap itemsAnswer (sym (stray s (w .0 .left) (w .1 .left)
-    (invalid (l .at) (w .2 .ensures) (not-false _ (w .4 .left)) (w .6 .ensures) (not-false _ (w .8 .left)) (w .10 .ensures) (not-true _ (w .11 .taken)))))))
-    (λ w. rw (w .20) (ap itemsAnswer (sym (misplaced s (w .0 .left) (w .1 .left) (w .6 .result .next)
-    (valid (l .at) (w .2 .ensures) (not-false _ (w .4 .left)) (w .6 .ensures) (not-false _ (w .8 .left)) (w .10 .ensures) (not-false _ (w .11 .left)))
-    (w .12 .inv .1 ∙ back-off (l .items) (w .12 .k) (w .2 .result .item) _ (w .13 .taken) (omega (arith, w .12 .inv .0, size s)) (sym (w .18 .ensures) ∙ not-true _ (w .19 .taken)))))))))))
+    (λ w. rw (w .18) (ap itemsAnswer (sym (misplaced s (w .0 .left) (w .1 .left) (w .6 .result .next)
+    (stopped (l .at) (w .2 .ensures) (not-false _ (w .4 .left)) (w .6 .ensures) (not-false _ (w .8 .left)))
+    (w .10 .inv .1 ∙ back-off (l .items) (w .10 .k) (w .2 .result .item) _ (w .11 .taken) (omega (arith, w .10 .inv .0, size s)) (sym (w .16 .ensures) ∙ not-true _ (w .17 .taken))))))))))
     (c .if1 .came)
 
 returns : tie.Need-returns Inv-loop μ-loop Inv-items μ-items
-returns c = rw (c .if8 .taken) at (outcome (c .before))
+returns c = rw (c .if7 .taken) at (outcome (c .before))
 
 no-items-requires : tie.Need-no-items-requires Inv-loop μ-loop Inv-items μ-items
 no-items-requires c κs = search needs
 
 returns-2 : tie.Need-returns-2 Inv-loop μ-loop Inv-items μ-items
-returns-2 c = c .no-items .ensures ∙ rw (c .before .if8 .left) at (outcome (c .before .before))
+returns-2 c = c .no-items .ensures ∙ rw (c .before .if7 .left) at (outcome (c .before .before))
 
 pub read-awareness-spec : {M : Type 1} → statement M
 read-awareness-spec =
@@ -156,7 +150,6 @@ read-awareness-spec =
     read-body-requires
     slice-aggregate-word
     word-requires
-    valid-item-requires
     loop-holds
     sub-a
     cast-a

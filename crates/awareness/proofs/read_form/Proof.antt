@@ -1,7 +1,7 @@
 use borrow.Author.Tests.{ne-eqb}
 use Rattle.items.specs.Item.{letterJ, letterP, letterR}
 use Rattle.items.specs.ReadItem.{readForm}
-use Rattle.awareness.proofs.Forms.{held-bare}
+use Rattle.awareness.proofs.Forms.{bare-valid, held-bare}
 use borrow.Author.Needs.{needs}
 use Rattle.awareness.proofs.read_form.Statement.{statement}
 use Rattle.awareness.proofs.read_form.Tie as tie
@@ -30,7 +30,7 @@ returns c = rw (c .before .match .keys1) (c .read-runway-item .ensures)
 
 returns-2 : tie.Need-returns-2
 unfolding readForm
-returns-2 c = let b = c .before .before .before in rw (c .before .match .keys2) (held-bare letterJ (b .args .i) (b .pre) (c .bare-item .ensures))
+returns-2 c = let b = c .before .before .before in rw (c .before .match .keys2) (held-bare letterJ (b .args .i) (b .pre) (bare-valid .0) (c .bare-item .ensures))
 
 returns-3 : tie.Need-returns-3
 unfolding readForm
@@ -38,7 +38,7 @@ returns-3 c = rw (c .before .match .keys3) (c .read-taxi-item .ensures)
 
 returns-4 : tie.Need-returns-4
 unfolding readForm
-returns-4 c = let b = c .before .before .before in rw (c .before .match .keys4) (held-bare letterP (b .args .i) (b .pre) (c .bare-item2 .ensures))
+returns-4 c = let b = c .before .before .before in rw (c .before .match .keys4) (held-bare letterP (b .args .i) (b .pre) (bare-valid .1) (c .bare-item2 .ensures))
 
 returns-5 : tie.Need-returns-5
 unfolding readForm
@@ -50,7 +50,7 @@ returns-6 c =
     let b = c .before .before .before in
     let k = b .args .opening in
     let r = c .before .match .rest in
-    rw (ne-eqb k 0 (r .0 .0 .0 .0 .1), ne-eqb k 1 (r .0 .0 .0 .1), ne-eqb k 2 (r .0 .0 .1), ne-eqb k 3 (r .0 .1), ne-eqb k 4 (r .1)) (held-bare letterR (b .args .i) (b .pre) (c .bare-item3 .ensures))
+    rw (ne-eqb k 0 (r .0 .0 .0 .0 .1), ne-eqb k 1 (r .0 .0 .0 .1), ne-eqb k 2 (r .0 .0 .1), ne-eqb k 3 (r .0 .1), ne-eqb k 4 (r .1)) (held-bare letterR (b .args .i) (b .pre) (bare-valid .2) (c .bare-item3 .ensures))
 
 pub read-form-spec : {M : Type 1} → statement M
 read-form-spec =

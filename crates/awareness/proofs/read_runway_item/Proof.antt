@@ -1,11 +1,12 @@
-use mathlib.Core.Path.{refl}
+use mathlib.Core.Path.{_≡_, refl}
 use mathlib.Core.List.{[], _∷_}
 use native.Mathlib.Omega.{arith}
 use lib.ListN.{drop}
 use borrow.Author.Tests.{not-true, not-false}
+use Rattle.text.specs.Read.{got}
 use Rattle.text.specs.Laws.Held.{got-of, misfit-of}
 use Rattle.items.specs.ReadItem.{readRunwayForm}
-use Rattle.awareness.proofs.Details.{text-there, text-off, runway-there, runway-off, saying-low, read-got, read-off, unread}
+use Rattle.awareness.proofs.Details.{text-there, text-off, runway-there, runway-off, saying-low, read-got, read-off, unread, is-valid, not-valid}
 use borrow.Author.Needs.{needs}
 use Rattle.awareness.proofs.read_runway_item.Statement.{statement}
 use Rattle.awareness.proofs.read_runway_item.Tie as tie
@@ -44,7 +45,7 @@ unfolding readRunwayForm
 returns-3 c = let m = drop (c .before .before .before .before .before .before .before .before .before .before .before .before .args .i) (c .before .before .before .before .before .before .before .before .before .before .before .before .args .s .now) in unread (c .no-item3 .ensures) (rw (text-there (32 ∷ []) m 0 (c .before .before .before .before .before .before .before .before .before .word .ensures) (not-false _ (c .before .before .before .before .before .before .before .if1 .left)), runway-there (c .before .before .before .before .before .before .read-runway .ensures) (not-false _ (c .before .before .before .before .if2 .left)), misfit-of (c .before .before .before .saying .ensures) (not-true _ (c .before .if3 .taken))))
 
 detail-requires : tie.Need-detail-requires
-detail-requires c κs = c .before .before .saying .ensures .within
+detail-requires c κs = search needs
 
 no-item-requires-4 : tie.Need-no-item-requires-4
 no-item-requires-4 c κs = search needs
@@ -59,9 +60,34 @@ cast-runway-item c = omega (arith, saying-low (drop (c .before .before .before .
 runway-item-requires : tie.Need-runway-item-requires
 runway-item-requires c κs = search needs
 
-returns-5 : tie.Need-returns-5
+valid-item-requires : tie.Need-valid-item-requires
+valid-item-requires c κs = search needs
+
+no-item-requires-5 : tie.Need-no-item-requires-5
+no-item-requires-5 c κs = search needs
+
+-- what stands there
+formed : (c : tie.After-runway-item) → let a = c .before .before .before .before .before .before .before .before .before .before .before .before .before .before .before .before .args in readRunwayForm (drop (a .i) (a .s .now)) ≡ got (c .runway-item .result) (drop (c .before .before .before .before .detail .result .next) (a .s .now))
 unfolding readRunwayForm
-returns-5 c = let m = drop (c .before .before .before .before .before .before .before .before .before .before .before .before .before .before .before .before .args .i) (c .before .before .before .before .before .before .before .before .before .before .before .before .before .before .before .before .args .s .now) in record { within = c .before .before .before .before .detail .ensures .reads .within; says = rw (text-there (32 ∷ []) m 0 (c .before .before .before .before .before .before .before .before .before .before .before .before .before .word .ensures) (not-false _ (c .before .before .before .before .before .before .before .before .before .before .before .if1 .left)), runway-there (c .before .before .before .before .before .before .before .before .before .before .read-runway .ensures) (not-false _ (c .before .before .before .before .before .before .before .before .if2 .left)), got-of (c .before .before .before .before .before .before .before .saying .ensures) (not-false _ (c .before .before .before .before .before .if3 .left)), read-got (c .before .before .before .before .detail .ensures .reads) (not-false _ (c .before .before .if4 .left)), c .runway-item .ensures); blank = refl }
+formed c =
+    let m = drop (c .before .before .before .before .before .before .before .before .before .before .before .before .before .before .before .before .args .i) (c .before .before .before .before .before .before .before .before .before .before .before .before .before .before .before .before .args .s .now) in
+    rw (text-there (32 ∷ []) m 0 (c .before .before .before .before .before .before .before .before .before .before .before .before .before .word .ensures) (not-false _ (c .before .before .before .before .before .before .before .before .before .before .before .if1 .left)), runway-there (c .before .before .before .before .before .before .before .before .before .before .read-runway .ensures) (not-false _ (c .before .before .before .before .before .before .before .before .if2 .left)), got-of (c .before .before .before .before .before .before .before .saying .ensures) (not-false _ (c .before .before .before .before .before .if3 .left)), read-got (c .before .before .before .before .detail .ensures .reads) (not-false _ (c .before .before .if4 .left)), c .runway-item .ensures)
+
+returns-5 : tie.Need-returns-5
+returns-5 c =
+    let b = c .before .before .before in
+    let a = b .before .before .before .before .before .before .before .before .before .before .before .before .before .before .before .before .args in
+    unread (c .no-item5 .ensures) (not-valid readRunwayForm (drop (a .i) (a .s .now)) (formed b) (c .before .before .valid-item .ensures) (not-true _ (c .before .if5 .taken)))
+
+returns-6 : tie.Need-returns-6
+returns-6 c =
+    let b = c .before .before in
+    let a = b .before .before .before .before .before .before .before .before .before .before .before .before .before .before .before .before .args in
+    record {
+      within = b .before .before .before .before .detail .ensures .reads .within;
+      says = is-valid readRunwayForm (drop (a .i) (a .s .now)) (formed b) (c .before .valid-item .ensures) (not-false _ (c .if5 .left));
+      blank = refl;
+    }
 
 pub read-runway-item-spec : {M : Type 1} → statement M
 read-runway-item-spec =
@@ -82,4 +108,7 @@ read-runway-item-spec =
     returns-4
     cast-runway-item
     runway-item-requires
-    returns-5)
+    valid-item-requires
+    no-item-requires-5
+    returns-5
+    returns-6)
