@@ -4,7 +4,7 @@ use mathlib.Core.Path.{_≡_, refl, sym, _∙_, ap}
 use mathlib.Core.List.{List, [], _∷_, _++_}
 use mathlib.Core.Bool.{Bool, true, false, not}
 use native.Mathlib.Omega.{arith}
-use lib.Dec.{leb}
+use lib.Dec.{eqb, leb}
 use lib.ListN.{length, drop, replicate}
 use borrow.Author.Tests.{leb-true, eq-eqb}
 use Rattle.text.specs.Choice.{pick, _and_, all, isEmpty}
@@ -13,12 +13,12 @@ use Rattle.text.specs.Read.{Got, misfit, got, guard, andThen, readText, readAs,
 use Rattle.text.specs.Names.{isName, past, readName}
 use Rattle.text.specs.Arrays.{isZero}
 use Rattle.text.specs.Held.{Held, readWord}
-use Rattle.text.specs.Laws.Base.{and-1, and-2, and-i, then-got, carry}
+use Rattle.text.specs.Laws.Base.{and-1, and-2, and-i, and-true, then-got, carry}
 use Rattle.text.specs.Laws.Arrays.{pad-length, replicate-zeros}
 use Rattle.text.specs.declared.Found.{Found}
 use Rattle.items.specs.declared.Item.{Item}
 use Rattle.items.specs.Item.{letterJ, letterP, letterR, onRunway, runwayFits, amountFits, edgeFits, countFits, slotsFit, taxiwaysFit, nameFits, numbersFit, validItem}
-use Rattle.items.specs.ReadItem.{taxiSayings, taxiSaying, taxiItem, readSomeTaxiways, readTaxiways, readTaxiForm, isApron, readApron, apronItem, readApronForm, openings, openingName, bareItem, readBareForm, readForm, readBody, readItem}
+use Rattle.items.specs.ReadItem.{runwayItem, taxiSayings, taxiSaying, taxiItem, readSomeTaxiways, readTaxiways, readTaxiForm, isApron, readApron, apronItem, readApronForm, openings, openingName, bareItem, readBareForm, readForm, readBody, readItem}
 use Rattle.awareness.specs.Held.{HeldItem, noItem}
 use Rattle.awareness.specs.Named.{inSlots, bareFound}
 use Rattle.awareness.specs.declared.ItemFound.{ItemFound}
@@ -26,6 +26,15 @@ use Rattle.awareness.specs.Laws.Held.{item-of, misfit-of}
 use Rattle.awareness.proofs.Names.{name-low}
 use Rattle.awareness.proofs.Details.{text-there, text-off}
 use Rattle.awareness.proofs.Named.{gap-before, name-passed}
+
+-- behind RWY: an item with neither taxiways nor a name is valid where its numbers fit
+pub runway-valid : {p : (ℕ × ℕ) × (ℕ × (ℕ × ℕ))} {i : Item} → i ≡ runwayItem p → validItem i ≡ numbersFit i
+unfolding validItem taxiwaysFit slotsFit nameFits past _and_
+runway-valid {p} e = rw e (go (eqb (p .1 .0) letterR))
+  where
+    go : (t : Bool) → (numbersFit (runwayItem p) and (true and all isZero (pick t (past isName (replicate 16 0)) (replicate 16 0)))) ≡ numbersFit (runwayItem p)
+    go true = and-true _
+    go false = and-true _
 
 -- behind TWY: taxiways that are in their slots, and what is said of them
 abbrev slotItem : ℕ → ℕ × List ℕ → Item

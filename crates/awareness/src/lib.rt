@@ -20,6 +20,7 @@ ghost use Rattle.awareness.specs.Named.{inSlots, bareFound};
 use items::Item;
 use items::blank_item;
 use items::may_follow;
+use items::numbers_fit;
 use items::valid_item;
 use runway::read_runway;
 use text::CAPITALS_AND_DIGITS;
@@ -301,7 +302,7 @@ fn read_runway_item(s: &[u8], i: usize) -> ItemFound
         return no_item();
     }
     let item = runway_item(y.value as u8, w.number, w.side, d.edge, d.amount);
-    if !valid_item(item) {
+    if !numbers_fit(item) {
         return no_item();
     }
     ItemFound {

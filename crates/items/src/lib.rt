@@ -262,7 +262,7 @@ fn name_fits(letter: u8, name: &[u8]) -> bool
 }
 
 // The numbers of an item.
-fn numbers_fit(i: Item) -> bool
+pub fn numbers_fit(i: Item) -> bool
     ensures { λ r. ⌜ r ≡ numbersFit i ⌝ }
 {
     if is_item(i.letter) {

@@ -1,4 +1,4 @@
-use mathlib.Core.Path.{_≡_, refl}
+use mathlib.Core.Path.{_≡_, refl, sym, _∙_}
 use mathlib.Core.List.{[], _∷_}
 use native.Mathlib.Omega.{arith}
 use lib.ListN.{drop}
@@ -7,6 +7,7 @@ use Rattle.text.specs.Read.{got}
 use Rattle.text.specs.Laws.Held.{got-of, misfit-of}
 use Rattle.items.specs.ReadItem.{readRunwayForm}
 use Rattle.awareness.proofs.Details.{text-there, text-off, runway-there, runway-off, saying-low, read-got, read-off, unread, is-valid, not-valid}
+use Rattle.awareness.proofs.Forms.{runway-valid}
 use borrow.Author.Needs.{needs}
 use Rattle.awareness.proofs.read_runway_item.Statement.{statement}
 use Rattle.awareness.proofs.read_runway_item.Tie as tie
@@ -60,8 +61,8 @@ cast-runway-item c = omega (arith, saying-low (drop (c .before .before .before .
 runway-item-requires : tie.Need-runway-item-requires
 runway-item-requires c κs = search needs
 
-valid-item-requires : tie.Need-valid-item-requires
-valid-item-requires c κs = search needs
+numbers-fit-requires : tie.Need-numbers-fit-requires
+numbers-fit-requires c κs = search needs
 
 no-item-requires-5 : tie.Need-no-item-requires-5
 no-item-requires-5 c κs = search needs
@@ -77,7 +78,7 @@ returns-5 : tie.Need-returns-5
 returns-5 c =
     let b = c .before .before .before in
     let a = b .before .before .before .before .before .before .before .before .before .before .before .before .before .before .before .before .args in
-    unread (c .no-item5 .ensures) (not-valid readRunwayForm (drop (a .i) (a .s .now)) (formed b) (c .before .before .valid-item .ensures) (not-true _ (c .before .if5 .taken)))
+    unread (c .no-item5 .ensures) (not-valid readRunwayForm (drop (a .i) (a .s .now)) (formed b) (c .before .before .numbers-fit .ensures ∙ sym (runway-valid (b .runway-item .ensures))) (not-true _ (c .before .if5 .taken)))
 
 returns-6 : tie.Need-returns-6
 returns-6 c =
@@ -85,7 +86,7 @@ returns-6 c =
     let a = b .before .before .before .before .before .before .before .before .before .before .before .before .before .before .before .before .args in
     record {
       within = b .before .before .before .before .detail .ensures .reads .within;
-      says = is-valid readRunwayForm (drop (a .i) (a .s .now)) (formed b) (c .before .valid-item .ensures) (not-false _ (c .if5 .left));
+      says = is-valid readRunwayForm (drop (a .i) (a .s .now)) (formed b) (c .before .numbers-fit .ensures ∙ sym (runway-valid (b .runway-item .ensures))) (not-false _ (c .if5 .left));
       blank = refl;
     }
 
@@ -108,7 +109,7 @@ read-runway-item-spec =
     returns-4
     cast-runway-item
     runway-item-requires
-    valid-item-requires
+    numbers-fit-requires
     no-item-requires-5
     returns-5
     returns-6)
