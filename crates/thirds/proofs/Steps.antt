@@ -1,7 +1,7 @@
 -- One step of each reader of a third.
 use Prim.Native.Nat.{ℕ}
 use mathlib.Core.Path.{_≡_, refl, _∙_, ap}
-use mathlib.Core.List.{List, [], _∷_, _++_}
+use mathlib.Core.List.{List, _∷_, _++_}
 use mathlib.Core.Bool.{Bool, true, false}
 use lib.ListN.{drop}
 use native.Mathlib.Omega.{arith}

@@ -5,16 +5,13 @@ use borrow.Author.Needs.{needs}
 use Rattle.front.proofs.front_answer.Statement.{statement}
 use Rattle.front.proofs.front_answer.Tie as tie
 
--- src/lib.rt:204:13
 blank-front-requires : tie.Need-blank-front-requires
 blank-front-requires c κs = search needs
 
--- src/lib.rt:205:9
 returns : tie.Need-returns
 unfolding frontAnswer front
 returns c = simp (← (c .blank-front .ensures)) (search tests)
 
--- src/lib.rt:200:1
 returns-2 : tie.Need-returns-2
 unfolding frontAnswer front
 returns-2 c = search tests

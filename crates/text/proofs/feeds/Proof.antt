@@ -4,15 +4,12 @@ use borrow.Author.Needs.{needs}
 use Rattle.text.proofs.feeds.Statement.{statement}
 use Rattle.text.proofs.feeds.Tie as tie
 
--- src/lib.rt:227:16
 shared-slice-read-result : tie.Need-shared-slice-read-result
 shared-slice-read-result c = search needs
 
--- src/lib.rt:227:9
 returns : tie.Need-returns
 returns c = rw (drop-cons (c .before .before .args .m .now) (c .before .before .args .i) 0 (c .before .if1 .taken))
 
--- src/lib.rt:223:1
 returns-2 : tie.Need-returns-2
 returns-2 c = rw (drop-of-length-le (c .before .args .m .now) (c .if1 .left))
 

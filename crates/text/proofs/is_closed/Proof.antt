@@ -4,19 +4,15 @@ use borrow.Author.Needs.{needs}
 use Rattle.text.proofs.is_closed.Statement.{statement}
 use Rattle.text.proofs.is_closed.Tie as tie
 
--- src/lib.rt:273:9
 returns : tie.Need-returns
 returns c = sym (closed-none (c .before .args .line .now) (c .if1 .taken))
 
--- src/lib.rt:275:10
 sub-result : tie.Need-sub-result
 sub-result c = search needs
 
--- src/lib.rt:275:5
 shared-slice-read-result : tie.Need-shared-slice-read-result
 shared-slice-read-result c = search needs
 
--- src/lib.rt:268:1
 returns-2 : tie.Need-returns-2
 returns-2 c = sym (closed-last (c .before .before .args .line .now) (search needs))
 

@@ -2,11 +2,9 @@ use Rattle.text.specs.Laws.Tests.{tests}
 use Rattle.text.proofs.is_letter.Statement.{statement}
 use Rattle.text.proofs.is_letter.Tie as tie
 
--- src/lib.rt:140:9
 returns : tie.Need-returns
 returns c = search tests
 
--- src/lib.rt:136:1
 returns-2 : tie.Need-returns-2
 returns-2 c = search tests
 

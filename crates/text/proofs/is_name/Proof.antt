@@ -4,15 +4,12 @@ use borrow.Author.Needs.{needs}
 use Rattle.text.proofs.is_name.Statement.{statement}
 use Rattle.text.proofs.is_name.Tie as tie
 
--- src/lib.rt:150:13
 returns : tie.Need-returns
 returns c = search tests
 
--- src/lib.rt:153:5
 is-letter-requires : tie.Need-is-letter-requires
 is-letter-requires c κs = search needs
 
--- src/lib.rt:145:1
 returns-2 : tie.Need-returns-2
 returns-2 c = ⊎-elim (λ w0. search tests) (λ w0. search tests) (c .before .if1 .came)
 
