@@ -5,7 +5,7 @@
 
 Run it in a copy of the tree that is proved (`rt check`), since it edits files in place and puts them back. An edit changes one
 numeral by one, one comparison, one truth value, one sign, one letter of a text or one number of a list of bytes. It is tried on
-its crate, and, where that still proves, a definition on the crates above it in the order of crates.txt. A row of a table is printed for each:
+its crate, and, where that still proves, on the crates above it in the order of crates.txt. A row of a table is printed for each:
 the place, the edit, and where it was refused with the first error; an edit that no crate refuses is called KEPT, and the
 status is then 1.
 """
@@ -94,9 +94,9 @@ def try_crate(crate):
     return (evaluated or stated or errors or lines or ["no word"])[0]
 
 
-def refusal(kind, crate):
-    """Where the edit is refused: the crate itself, or, for a definition, one above it. Of code those see the promises alone."""
-    above = [name for name, uses in crates().items() if crate in uses and kind == "definitions"]
+def refusal(crate):
+    """Where the edit is refused: the crate itself, or one above it, which sees its definitions and, of code, its constants."""
+    above = [name for name, uses in crates().items() if crate in uses]
     for name in [crate] + above:
         error = try_crate(name)
         if error is not None:
@@ -127,7 +127,7 @@ def main():
             lines = [re.sub(r"use lib\.Dec\.\{(?!.*\bltb\b)", "use lib.Dec.{ltb, ", x) for x in lines]
         path.write_text("\n".join(lines))
         try:
-            name, error = refusal(kind, crate)
+            name, error = refusal(crate)
         finally:
             path.write_text(before)
         kept += name is None
