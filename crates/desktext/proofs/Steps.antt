@@ -13,7 +13,7 @@ use Rattle.text.specs.Lines.{lines, lineSize, lineStep}
 use Rattle.text.specs.Piece.{bytes}
 use Rattle.text.specs.Put.{Put}
 use Rattle.text.specs.Laws.Held.{part-all}
-use Rattle.text.specs.Laws.Lines.{lines-first, line-within}
+use Rattle.text.specs.Laws.Lines.{first-lines, line-within}
 use Rattle.text.specs.Laws.Put.{more}
 use Rattle.board.specs.declared.Board.{Board}
 use Rattle.board.specs.declared.Answer.{Answer}
@@ -27,11 +27,6 @@ use Rattle.desktext.specs.Answers.{taken}
 pub rows-more : (i : ℕ) (b : Board) → shownRows (i + 1) b ≡ shownRows i b ++ shownText (rowAt b i)
 unfolding shownRows
 rows-more i b = rw add-one
-
--- a text that is not empty has a first line
-pub first-lines : (m : List ℕ) → 0 < length m → lines m ≡ take (lineSize m) m ∷ lines (drop (lineStep m) m)
-first-lines [] h = absurd (omega arith)
-first-lines (x ∷ m) h = lines-first x m
 
 -- the report that the first line is
 pub taken-is : (b : Board) (m : List ℕ) (l : Line) → l ≡ firstLine m → (a : Answer) → a ≡ reportLine b (take (l .size) m) → record { answer = a; next = l .next } ≡ taken b m

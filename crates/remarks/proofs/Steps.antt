@@ -15,7 +15,7 @@ use Rattle.text.specs.Lines.{lines, lineSize, lineStep, closed, front, opened}
 use Rattle.text.specs.declared.Line.{Line}
 use Rattle.text.specs.Laws.Arrays.{take-front}
 use Rattle.text.specs.Laws.Held.{part-all}
-use Rattle.text.specs.Laws.Lines.{lines-first, front-part, closed-is}
+use Rattle.text.specs.Laws.Lines.{lines-first, front-part, closed-is, first-lines}
 use Rattle.items.specs.declared.Item.{Item}
 use Rattle.items.specs.Awareness.{wholeAwareness}
 use Rattle.items.specs.Language.{wholeLanguage}
@@ -75,11 +75,6 @@ module _ (m : List ℕ) (line : Line) (f : line ≡ firstLine m) (n : ℕ) (e : 
   text-shut-there : ltb n (line .size) ≡ closed (take (lineSize m) m)
   text-shut-there = rw (e) (ap (ltb (length (opened (take (line .size) m)))) (sym line-size) ∙ text-shut (take (line .size) m) ∙ rw size-here)
 
--- the lines of a message that is not empty
-first-lines : (m : List ℕ) → (length m ≡ 0 → ⊥) → lines m ≡ take (lineSize m) m ∷ lines (drop (lineStep m) m)
-first-lines [] h = absurd (h refl)
-first-lines (x ∷ m) h = lines-first x m
-
 pub nothing-below : (m : List ℕ) → length m ≡ 0 → noRemarks 4 ≡ remarksAnswer (readRemarks (more (lines m)))
 unfolding lines
 nothing-below [] h = refl
@@ -130,7 +125,7 @@ module _ (m : List ℕ) (some : length m ≡ 0 → ⊥) (line : Line) (f : line 
   language-open h = rw (ne-eqb (length m) 0 some, ← text-shut-there m line f n e, le-ltb n (line .size) h)
 
   pub remarks-says : below (itemsAnswer (wholeAwareness (take n m))) (ltb n (line .size)) (take (length m - line .next) (drop (line .next) m)) ≡ remarksAnswer (readRemarks (more (lines m)))
-  remarks-says = rw (text-there m line f n e, text-shut-there m line f n e, part-all, next-here m line f n e, first-lines m some) (items-says (wholeAwareness (opened (take (lineSize m) m))) (closed (take (lineSize m) m)) (drop (lineStep m) m))
+  remarks-says = rw (text-there m line f n e, text-shut-there m line f n e, part-all, next-here m line f n e, first-lines m (omega (arith, some))) (items-says (wholeAwareness (opened (take (lineSize m) m))) (closed (take (lineSize m) m)) (drop (lineStep m) m))
 
   -- either the tail is refused, or it stands behind the items
   module _ {r : ItemsRead} (x : r ≡ itemsAnswer (wholeAwareness (take n m))) {t : Tail} (y : t ≡ itemsStep (r .fits) (r .count) (ltb n (line .size)) (take (length m - line .next) (drop (line .next) m))) where

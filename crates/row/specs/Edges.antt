@@ -18,7 +18,7 @@ use Rattle.surface.specs.declared.Third.{Third}
 use Rattle.thirds.specs.Groups.{coverages, depths, measurePieces, readMeasure, readCoverage, readDescription, thirdPieces, readThird, readGroup}
 use Rattle.row.specs.Row.{threeThat, validRow, isBare, isSix, isDry, isShort, groupOf, middlePieces, widthPieces, rowPieces}
 use Rattle.row.specs.Reading.{readFull, readShort, readWidth, readRow, wholeRow, answer}
-use Rattle.row.specs.Writing.{rowText}
+use Rattle.row.specs.Writing.{rowText, Wrote}
 use Rattle.row.specs.declared.Row.{Row}
 use Rattle.row.specs.declared.RowRead.{RowRead}
 
@@ -175,3 +175,12 @@ pub record Written : Type 0 where
 pub written : Written
 unfolding _and_ spell digits isShortMonth daysOf realDay realClock realTime validRunway isContaminant isDeep isCoverage validCoverage leastDepth isReported validDepth validThird measurePieces thirdPieces threeThat validRow isBare isSix isDry isShort middlePieces widthPieces rowPieces rowText
 written = record { full = refl; short = refl; short-nr = refl; not-short = refl; deep = refl; invalid = refl; left-out = refl }
+
+-- a text in a buffer that is longer than it, as long, and a byte shorter
+pub record Fitted : Type 0 where
+  longer : Wrote (bytes "AB") (bytes "xyz") (bytes "ABz") 2
+  exact : Wrote (bytes "AB") (bytes "xy") (bytes "AB") 2
+  shorter : Wrote (bytes "AB") (bytes "x") (bytes "x") 0
+
+pub fitted : Fitted
+fitted = record { longer = record { filled = refl; holds = refl }; exact = record { filled = refl; holds = refl }; shorter = record { filled = refl; holds = refl } }
