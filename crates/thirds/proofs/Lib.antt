@@ -1,2 +1,3 @@
 pub mod Descriptions
+pub mod Joints
 pub mod Steps

@@ -4,7 +4,9 @@ use mathlib.Core.Path.{_≡_}
 use mathlib.Core.List.{List}
 use mathlib.Core.Bool.{Bool, false}
 use lib.ListN.{length, drop}
+use lib.Dec.{eqb}
 use Rattle.text.specs.Choice.{pick}
+use Rattle.text.specs.Piece.{bytes}
 use Rattle.text.specs.Read.{Got, misfit, got, guard, orElse}
 use Rattle.text.specs.Held.{Held}
 use Rattle.text.specs.declared.Found.{Found}
@@ -30,3 +32,7 @@ pub record Tried (m : List ℕ) (f : Found) (h : Got ℕ) (r : Found) : Type 0 w
 -- the answer f under a test: where f is a reading, r is that reading if the test holds, and none else
 pub record Kept (f : Found) (test : Bool) (r : Found) : Type 0 where
   pub on : {m : List ℕ} {g : Got ℕ} → Held m g f → Held m (guard test g) r
+
+-- what parts a third of a group from what stands before it: a gap the first, `/` each other
+abbrev pub jointText : ℕ → List ℕ
+jointText third = pick (eqb third 0) (bytes " ") (bytes "/")

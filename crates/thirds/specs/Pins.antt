@@ -9,7 +9,7 @@ use Rattle.text.specs.Read.{Got, misfit, got, skip, readText}
 use Rattle.text.specs.Names.{readName}
 use Rattle.text.specs.Numbers.{digits, readDigits}
 use Rattle.surface.specs.Descriptions.{notReported, compactedSnow, drySnow, drySnowOnCompactedSnow, drySnowOnIce, frost, ice, slush, standingWater, waterOnCompactedSnow, wet, wetIce, wetSnow, wetSnowOnCompactedSnow, wetSnowOnIce, dry}
-use Rattle.thirds.specs.Held.{noTrio}
+use Rattle.thirds.specs.Held.{noTrio, jointText}
 use Rattle.thirds.specs.Groups.{codes, coverages, depths, descriptions, descriptionOrder, measurePieces, readMeasure, readCoverage, readDescription, thirdPieces, readThird, highest, Three, groupPieces, readGroup}
 
 abbrev text : ℕ → ℕ → List ℕ
@@ -50,10 +50,11 @@ pub record Texts : Type 0 where
       ∷ []
       ∷ []
   joined : canonical (groupPieces depths (3, notReported, 100)) ≡ bytes " 03/NR/100"
+  joints : map jointText (0 ∷ 1 ∷ 2 ∷ []) ≡ bytes " " ∷ bytes "/" ∷ bytes "/" ∷ []
 
 pub texts : Texts
 unfolding spell digits measurePieces thirdPieces
-texts = record { code = refl; coverage = refl; depth = refl; description = refl; joined = refl }
+texts = record { code = refl; coverage = refl; depth = refl; description = refl; joined = refl; joints = refl }
 
 pub record Readings : Type 0 where
   -- each description in its own text, whatever else begins as it does

@@ -1,17 +1,17 @@
 // The groups of thirds of a runway row's text: codes, coverages, depths and descriptions, joined by `/`.
 ghost use lib.ListN.{drop};
-ghost use Rattle.text.specs.Piece.{canonical, bytes};
-ghost use Rattle.text.specs.Read.{readAfter};
+ghost use Rattle.text.specs.Piece.{canonical};
 ghost use Rattle.text.specs.Numbers.{readNumber};
 ghost use Rattle.text.specs.Held.{Held, readWord};
 ghost use Rattle.text.specs.Put.{Put};
-ghost use Rattle.thirds.specs.Groups.{measurePieces, readMeasure, readCoverage, descriptionPieces, readDescription, thirdPieces, readThird, readThree, groupPieces, readGroup};
+ghost use Rattle.thirds.specs.Groups.{measurePieces, readMeasure, readCoverage, descriptionPieces, readDescription, thirdPieces, readThird, groupPieces, readGroup};
 ghost use Rattle.thirds.specs.Parts.{readFirst, onTop, snows, behindDry, dries, behindWet, wets};
-ghost use Rattle.thirds.specs.Held.{HeldThree, Tried, Kept};
+ghost use Rattle.thirds.specs.Held.{HeldThree, Tried, Kept, jointText};
 use surface::description;
 use text::Found;
 use text::NONE;
 use text::digits;
+use text::place;
 use text::put;
 use text::put_digits;
 use text::word;
@@ -239,49 +239,45 @@ fn one_third(kind: u8, s: &[u8], i: usize) -> Found
     description(s, i)
 }
 
-fn next_third(kind: u8, s: &[u8], i: usize) -> Found
-    ensures { λ r. ⌜ Held (now (s .entry)) (readAfter (bytes "/") (readThird kind) (drop i (now (s .entry)))) r ⌝ }
+// What parts a third from what stands before it: a gap the first of a group, `/` each other.
+fn joint(third: usize, s: &[u8], i: usize) -> Found
+    ensures { λ r. ⌜ Held (now (s .entry)) (readWord (jointText third) 0 (drop i (now (s .entry)))) r ⌝ }
 {
-    let f = word(s, i, b"/", 0);
-    if f.fits {
-        return one_third(kind, s, f.next);
+    if third == 0 {
+        return word(s, i, b" ", 0);
     }
-    NONE
+    word(s, i, b"/", 0)
 }
 
-fn three(kind: u8, s: &[u8], i: usize) -> Trio
-    ensures { λ r. ⌜ HeldThree (now (s .entry)) (readThree (readThird kind) (drop i (now (s .entry)))) r ⌝ }
-{
-    let f = one_third(kind, s, i);
-    if !f.fits {
-        return NO_TRIO;
-    }
-    let g = next_third(kind, s, f.next);
-    if !g.fits {
-        return NO_TRIO;
-    }
-    let h = next_third(kind, s, g.next);
-    if !h.fits {
-        return NO_TRIO;
-    }
-    Trio {
-        fits: true,
-        one: f.value,
-        two: g.value,
-        three: h.value,
-        next: h.next,
-    }
-}
+const THIRDS: usize = 3;
 
-// The numbers of a group of thirds that stands at `i` behind a gap.
+// The numbers of a group of thirds that stands at `i` behind a gap. One loop reads all three, so that the code for a third stands once and without a call.
 pub fn read_group(kind: u8, s: &[u8], i: usize) -> Trio
     ensures { λ r. ⌜ HeldThree (now (s .entry)) (readGroup kind (drop i (now (s .entry)))) r ⌝ }
 {
-    let f = word(s, i, b" ", 0);
-    if f.fits {
-        return three(kind, s, f.next);
+    let mut values = [0u32; THIRDS];
+    let mut at = place(s, i);
+    let mut third: usize = 0;
+    while third < THIRDS {
+        let f = joint(third, s, at);
+        if !f.fits {
+            return NO_TRIO;
+        }
+        let g = one_third(kind, s, f.next);
+        if !g.fits {
+            return NO_TRIO;
+        }
+        values[third] = g.value;
+        at = g.next;
+        third += 1;
     }
-    NO_TRIO
+    Trio {
+        fits: true,
+        one: values[0],
+        two: values[1],
+        three: values[2],
+        next: at,
+    }
 }
 
 // ---- Writing
