@@ -18,6 +18,7 @@ pub record Reads {A : Type 0} (m : List ℕ) (g : Got A) (fits : Bool) (v : A) (
   pub within : next ≤ length m
   pub says : g ≡ pick fits (got v (drop next m)) misfit
 
+-- nothing said of a runway
 abbrev pub noDetail : DetailFound
 noDetail = record { fits = false; edge = 0; amount = 0; next = 0 }
 
@@ -26,6 +27,7 @@ pub record HeldDetail (m : List ℕ) (g : Got (ℕ × ℕ)) (r : DetailFound) : 
   pub reads : Reads m g (r .fits) (r .edge, r .amount) (r .next)
   pub blank : r ≡ pick (r .fits) r noDetail
 
+-- no item: a misfit is blank
 abbrev pub noItem : ItemFound
 noItem = record { fits = false; item = blankItem; next = 0 }
 

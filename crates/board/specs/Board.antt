@@ -26,6 +26,7 @@ isAerodrome l = isLetters aerodromeSize l
 abbrev pub blankRunway : Runway
 blankRunway = record { number = 0; side = 0 }
 
+-- an unused place of the list
 unfoldable pub isBlankRunway : Runway → Bool
 isBlankRunway w = eqb (w .number) 0 and eqb (w .side) 0
 

@@ -30,9 +30,11 @@ isSpace c = eqb c 32
 abbrev pub spacedPieces : Runway → List Piece
 spacedPieces w = byte 32 ∷ runwayPieces (w .number) (w .side)
 
+-- a runway behind one space
 unfoldable pub readSpaced : List ℕ → Got (ℕ × ℕ)
 readSpaced = readAs (λ p. p .1) (readSeq (readCount isSpace 1) readRunway)
 
+-- the runway of a number and a side
 abbrev pub makeRunway : ℕ × ℕ → Runway
 makeRunway p = record { number = p .0; side = p .1 }
 
@@ -40,9 +42,11 @@ makeRunway p = record { number = p .0; side = p .1 }
 unfoldable pub openingPieces : List ℕ → List Runway → List Piece
 openingPieces aerodrome ws = verbatim aerodrome then layAll spacedPieces ws
 
+-- up to eight of them
 abbrev pub readRunways : List ℕ → Got (List Runway)
 readRunways = readMany (readAs makeRunway readSpaced) places
 
+-- the aerodrome and the runways
 unfoldable pub readOpening : List ℕ → Got (List ℕ × List Runway)
 readOpening = readSeq readAerodrome readRunways
 

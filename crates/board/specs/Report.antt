@@ -35,6 +35,7 @@ stored b i r = record { aerodrome = b .aerodrome; count = b .count; runways = b 
 abbrev pub notOnBoard : ℕ
 notOnBoard = 18
 
+-- and the last of them
 abbrev pub notLater : ℕ
 notLater = 20
 

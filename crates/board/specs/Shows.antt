@@ -22,13 +22,15 @@ pub data Shown : Type 0 where
 abbrev pub shown : Row → Shown
 shown r = pick (isBlankRow r) nothing (row r)
 
--- the runway of the place i, and what it shows
+-- the runway of the place i
 abbrev pub runwayAt : Board → ℕ → Runway
 runwayAt b i = getD (b .runways) i blankRunway
 
+-- what the board shows in the place i
 abbrev pub shownAt : Board → ℕ → Shown
 shownAt b i = shown (rowAt b i)
 
+-- the row is one of the list
 abbrev pub _isIn_ : Row → List Row → Type 0
 r isIn rs = List·Memᴰ r rs
 

@@ -31,6 +31,7 @@ outcome m n r c at = pick (eqb n 0) (taken (block (rowsOf r) (pick c finished (m
 abbrev pub noRows : ℕ → RowsRead
 noRows n = record { refusal = n; rows = makeRows []; closed = false; next = 0 }
 
+-- the answer of the loop over the lines: the rows so far, or the refusal that left it
 unfoldable pub rowsAnswer : ℕ → Rows → Bool → ℕ → RowsRead
 rowsAnswer n r c at = pick (eqb n 0) (pick c (record { refusal = 0; rows = r; closed = true; next = 0 }) (record { refusal = 0; rows = r; closed = false; next = at })) (noRows n)
 

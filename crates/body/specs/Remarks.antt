@@ -16,10 +16,11 @@ use Rattle.body.specs.declared.Language.{Language}
 use Rattle.text.specs.Out.{Out, refuse, taken, fit, atEnd}
 use Rattle.body.specs.Rows.{After, finished, more}
 
--- the items and the bytes that the arrays hold
+-- the items of a record: as many as its count says
 abbrev pub itemsOf : Items → List Item
 itemsOf i = take (i .count) (i .items)
 
+-- the plain language of a record: as many bytes as its length says
 abbrev pub languageOf : Language → List ℕ
 languageOf l = take (l .length) (l .bytes)
 
@@ -27,9 +28,11 @@ languageOf l = take (l .length) (l .bytes)
 abbrev pub makeItems : List Item → Items
 makeItems is = record { count = length is; items = pad mostItems blankItem is }
 
+-- "The record holds 400 bytes of plain language and its length", zeros past it
 abbrev pub makeLanguage : List ℕ → Language
 makeLanguage l = record { length = length l; bytes = pad mostLanguage 0 l }
 
+-- valid items, and "zeros past each count"
 unfoldable pub holdsItems : Items → Bool
 holdsItems i = leb (i .count) mostItems and eqb (length (i .items)) mostItems and validItems (itemsOf i) and all isBlankItem (drop (i .count) (i .items))
 
@@ -37,9 +40,11 @@ holdsItems i = leb (i .count) mostItems and eqb (length (i .items)) mostItems an
 unfoldable pub noneOrLanguage : List ℕ → Bool
 noneOrLanguage l = pick (isEmpty l) true (validLanguage l)
 
+-- no plain language or valid one, and zeros past its length
 unfoldable pub holdsLanguage : Language → Bool
 holdsLanguage l = leb (l .length) mostLanguage and eqb (length (l .bytes)) mostLanguage and noneOrLanguage (languageOf l) and all isZero (drop (l .length) (l .bytes))
 
+-- "if there is plain language, its line"
 abbrev pub languageLines : List ℕ → List (List Piece)
 languageLines [] = []
 languageLines (c ∷ l) = verbatim (c ∷ l) ∷ []
@@ -49,10 +54,12 @@ languageLines (c ∷ l) = verbatim (c ∷ l) ∷ []
 abbrev pub remarkLines : List Item → List ℕ → List (List Piece)
 remarkLines is l = pick (isEmpty is and isEmpty l) [] ([] ∷ awarenessPieces is ∷ languageLines l)
 
+-- what stands below the rows
 pub record Remarks : Type 0 where
   pub items : List Item
   pub language : List ℕ
 
+-- the two put together
 abbrev pub remarks : List Item → List ℕ → Remarks
 remarks is l = record { items = is; language = l }
 

@@ -27,6 +27,7 @@ rowsOf r = take (r .count) (r .rows)
 abbrev pub makeRows : List Row → Rows
 makeRows rs = record { count = length rs; rows = pad mostRows blankRow rs }
 
+-- rows of one runway: its number and its side
 unfoldable pub sameRunway : Row → Row → Bool
 sameRunway a b = eqb (a .number) (b .number) and eqb (a .side) (b .side)
 
@@ -54,6 +55,7 @@ unfoldable pub latest : List Row → ℕ
 latest [] = 0
 latest (r ∷ rs) = latestFrom (r .time) rs
 
+-- 1 to 8 valid rows, no runway twice, and blank rows past them
 unfoldable pub validRows : Rows → Bool
 validRows r = leb 1 (r .count) and leb (r .count) mostRows and eqb (length (r .rows)) mostRows
     and all validRow (rowsOf r) and newRunways [] (rowsOf r) and all isBlankRow (drop (r .count) (r .rows))
@@ -68,6 +70,7 @@ pub record Block : Type 0 where
   pub rows : List Row
   pub after : After
 
+-- the two put together
 abbrev pub block : List Row → After → Block
 block rs a = record { rows = rs; after = a }
 

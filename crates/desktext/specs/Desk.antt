@@ -43,5 +43,6 @@ abbrev pub linesText : List (List ℕ) → List ℕ
 linesText [] = refusedText
 linesText (l ∷ ls) = openedText (openingLine l) ls
 
+-- all that the desk program prints
 unfoldable pub deskText : List ℕ → List ℕ
 deskText input = linesText (lines input)

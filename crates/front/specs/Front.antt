@@ -22,25 +22,31 @@ use Rattle.front.specs.declared.LineInto.{LineInto}
 use Rattle.front.specs.declared.FrontStep.{FrontStep}
 use Rattle.front.specs.declared.FrontRead.{FrontRead}
 
+-- nothing is read yet
 abbrev pub blankFront : Front
 blankFront = record { addresses = blankAddresses; filing = blankFiling; title = blankTitle; time = 0; serial = 0; aerodrome = zeros aerodromeSize }
 
--- the front with one line more
+-- the front with one line more: line 1
 abbrev pub withAddresses : Front → Addresses → Front
 withAddresses f a = record { addresses = a; filing = f .filing; title = f .title; time = f .time; serial = f .serial; aerodrome = f .aerodrome }
 
+-- line 2
 abbrev pub withFiling : Front → Filing → Front
 withFiling f x = record { addresses = f .addresses; filing = x; title = f .title; time = f .time; serial = f .serial; aerodrome = f .aerodrome }
 
+-- line 3
 abbrev pub withHeading : Front → Heading → Front
 withHeading f h = record { addresses = f .addresses; filing = f .filing; title = h .title; time = h .time; serial = f .serial; aerodrome = f .aerodrome }
 
+-- line 4
 abbrev pub withSerial : Front → ℕ → Front
 withSerial f n = record { addresses = f .addresses; filing = f .filing; title = f .title; time = f .time; serial = n; aerodrome = f .aerodrome }
 
+-- line 5
 abbrev pub withAerodrome : Front → List ℕ → Front
 withAerodrome f a = record { addresses = f .addresses; filing = f .filing; title = f .title; time = f .time; serial = f .serial; aerodrome = a }
 
+-- what line 3 said
 abbrev pub headingOf : Front → Heading
 headingOf f = record { title = f .title; time = f .time }
 
@@ -85,6 +91,7 @@ pub record Stepped (k : ℕ) (f : Front) (m : List ℕ) (r : FrontStep) : Type 0
 abbrev pub noFront : ℕ → FrontRead
 noFront n = record { refusal = n; front = blankFront; next = 0 }
 
+-- the answer of the loop over lines 1 to 5: the front, or the refusal that left it
 unfoldable pub frontAnswer : ℕ → Front → ℕ → FrontRead
 frontAnswer n f at = pick (eqb n 0) (record { refusal = 0; front = f; next = at }) (noFront n)
 

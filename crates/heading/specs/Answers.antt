@@ -24,29 +24,34 @@ use Rattle.heading.specs.declared.AerodromeRead.{AerodromeRead}
 abbrev pub zeros : ℕ → List ℕ
 zeros n = replicate n 0
 
--- each line's part of a blank record
+-- a blank record's part of line 1
 abbrev pub blankAddresses : Addresses
 blankAddresses = record { priority = 0; count = 0; letters = zeros addressRoom }
 
+-- of line 2
 abbrev pub blankFiling : Filing
 blankFiling = record { time = 0; originator = zeros originatorSize }
 
+-- of line 3
 abbrev pub blankTitle : Title
 blankTitle = record { region = zeros regionSize; serial = 0; aerodrome = zeros aerodromeSize }
 
--- the answer that a reading of each line gives
+-- the answer that a reading of line 1 gives
 abbrev pub addressesAnswer : Got Addresses → AddressesRead
 addressesAnswer misfit = record { fits = false; addresses = blankAddresses }
 addressesAnswer (got a r) = record { fits = true; addresses = a }
 
+-- of line 2
 abbrev pub filingAnswer : Got Filing → FilingRead
 filingAnswer misfit = record { fits = false; filing = blankFiling }
 filingAnswer (got f r) = record { fits = true; filing = f }
 
+-- of line 3
 abbrev pub headingAnswer : Got Heading → HeadingRead
 headingAnswer misfit = record { fits = false; title = blankTitle; time = 0 }
 headingAnswer (got h r) = record { fits = true; title = h .title; time = h .time }
 
+-- of line 5
 abbrev pub aerodromeAnswer : Got (List ℕ) → AerodromeRead
 aerodromeAnswer misfit = record { fits = false; aerodrome = zeros aerodromeSize }
 aerodromeAnswer (got a r) = record { fits = true; aerodrome = a }

@@ -11,10 +11,11 @@ use Rattle.runway.specs.Time.{realTime}
 use Rattle.heading.specs.Letters.{readLetters, isLetters}
 use Rattle.heading.specs.declared.Title.{Title}
 
--- "two letters", "the aerodrome, four letters"
+-- "two letters"
 abbrev pub regionSize : ℕ
 regionSize = 2
 
+-- "the aerodrome, four letters"
 abbrev pub aerodromeSize : ℕ
 aerodromeSize = 4
 
@@ -31,10 +32,11 @@ isSerial n = leb 1 n and leb n 9999
 abbrev pub readSerial : List ℕ → Got ℕ
 readSerial = readIf isSerial (readDigits 4)
 
--- "`SW`, two letters and a serial 0001 to 9999 without gaps": the text, and its reading
+-- "`SW`, two letters and a serial 0001 to 9999 without gaps"
 abbrev pub designatorPieces : List ℕ → ℕ → List Piece
 designatorPieces region serial = words "SW" then verbatim region then digits 4 serial
 
+-- the same read
 abbrev pub readDesignator : List ℕ → Got (List ℕ × ℕ)
 readDesignator = readAfter (bytes "SW") (readSeq (readLetters regionSize) readSerial)
 
@@ -62,16 +64,18 @@ validTitle t = isLetters regionSize (t .region) and isSerial (t .serial) and isL
 unfoldable pub validHeading : Heading → Bool
 validHeading h = validTitle (h .title) and realTime (h .time)
 
--- 4. "`(SNOWTAM` and the serial again": the line's text, and what it says
+-- 4. "`(SNOWTAM` and the serial again"
 unfoldable pub serialPieces : ℕ → List Piece
 serialPieces n = words "(SNOWTAM " then digits 4 n
 
+-- the same read
 unfoldable pub readSerialLine : List ℕ → Got ℕ
 readSerialLine = readAfter (bytes "(SNOWTAM ") readSerial
 
--- 5. "The aerodrome again": the line's text, and what it says
+-- 5. "The aerodrome again"
 unfoldable pub aerodromePieces : List ℕ → List Piece
 aerodromePieces a = verbatim a
 
+-- the same read
 unfoldable pub readAerodrome : List ℕ → Got (List ℕ)
 readAerodrome = readLetters aerodromeSize

@@ -13,6 +13,7 @@ use Rattle.items.specs.Item.{letterR, onRunway, validItem, taxiwayBytes,
 use Rattle.items.specs.ItemText.{isNamed, itemPieces}
 use Rattle.items.specs.ReadItem.{readItem, bareItem}
 
+-- items of one runway: its number and its side
 unfoldable pub sameRunway : Item → Item → Bool
 sameRunway a b = eqb (a .number) (b .number) and eqb (a .side) (b .side)
 
@@ -28,13 +29,15 @@ mayRepeat a b = pick (onRunway (a .letter)) (not (sameRunway a b)) (pick (eqb (a
 unfoldable pub mayFollow : Item → Item → Bool
 mayFollow a b = pick (eqb (a .letter) (b .letter)) (mayRepeat a b) (ltb (a .letter) (b .letter))
 
--- i may stand behind all of these
+-- a may stand before i
 unfoldable pub mayPrecede : Item → Item → Bool
 mayPrecede i a = mayFollow a i
 
+-- i may stand behind all of these
 abbrev pub standsBehind : List Item → Item → Bool
 standsBehind is i = all (mayPrecede i) is
 
+-- each item may stand behind all before it
 unfoldable pub inOrder : List Item → Bool
 inOrder [] = true
 inOrder (a ∷ as′) = all (mayFollow a) as′ and inOrder as′
@@ -47,6 +50,7 @@ mostItems = 32
 unfoldable pub soundItems : List Item → Bool
 soundItems is = all validItem is and inOrder is
 
+-- "At most 32"
 unfoldable pub validItems : List Item → Bool
 validItems is = leb (length is) mostItems and soundItems is
 
@@ -60,9 +64,11 @@ unfoldable pub readAwareness : List ℕ → Got (List Item)
 readAwareness [] = got [] []
 readAwareness (x ∷ m) = readIf inOrder (readAs (λ p. p .0 ∷ p .1) (readSeq readItem (readMany (readLoose readItem) 31))) (x ∷ m)
 
+-- a line that is such items
 unfoldable pub wholeAwareness : List ℕ → Got (List Item)
 wholeAwareness l = whole (readAwareness l)
 
+-- "blank means all zero"
 abbrev pub blankItem : Item
 blankItem = bareItem 0
 
@@ -70,9 +76,11 @@ blankItem = bareItem 0
 unfoldable pub isBlank : ℕ → List ℕ → Bool
 isBlank n f = eqb (length f) n and all isZero f
 
+-- no letter, and no number in any field
 unfoldable pub noNumbers : Item → Bool
 noNumbers i = eqb (i .letter) 0 and eqb (i .number) 0 and eqb (i .side) 0 and eqb (i .amount) 0 and eqb (i .edge) 0 and eqb (i .count) 0
 
+-- all zero
 unfoldable pub isBlankItem : Item → Bool
 isBlankItem i = noNumbers i and isBlank taxiwayBytes (i .taxiways) and isBlank apronSize (i .name)
 

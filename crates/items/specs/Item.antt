@@ -11,48 +11,59 @@ use Rattle.text.specs.Arrays.{isZero, slots}
 use Rattle.runway.specs.Runway.{validRunway}
 use Rattle.items.specs.declared.Item.{Item}
 
--- the letters, by their bytes
+-- the items by the bytes of their letters; I is `RWY rr REDUCED TO n`
 abbrev pub letterI : ℕ
 letterI = 73
 
+-- `DRIFTING SNOW`
 abbrev pub letterJ : ℕ
 letterJ = 74
 
+-- `RWY rr LOOSE SAND`
 abbrev pub letterK : ℕ
 letterK = 75
 
+-- `RWY rr CHEMICALLY TREATED`
 abbrev pub letterL : ℕ
 letterL = 76
 
+-- `RWY rr SNOWBANK` and an edge with a distance
 abbrev pub letterM : ℕ
 letterM = 77
 
+-- `TWY` taxiways `SNOWBANK`
 abbrev pub letterN : ℕ
 letterN = 78
 
+-- `RWY rr ADJ SNOWBANK`
 abbrev pub letterO : ℕ
 letterO = 79
 
+-- `TWY` taxiways `POOR`, or `ALL TWY POOR`
 abbrev pub letterP : ℕ
 letterP = 80
 
+-- `APRON` name `POOR`, or `ALL APRON POOR`
 abbrev pub letterR : ℕ
 letterR = 82
 
--- the nine items, those that name a runway, and those that name taxiways
+-- the nine items
 abbrev pub letters : List ℕ
 letters = bytes "IJKLMNOPR"
 
+-- the items that name a runway
 unfoldable pub onRunway : ℕ → Bool
 onRunway l = member (bytes "IKLMO") l
 
+-- the items that may name taxiways
 unfoldable pub onTaxiways : ℕ → Bool
 onTaxiways l = member (bytes "NP") l
 
--- the name at the front of an array, and what stands behind it
+-- the name at the front of an array
 abbrev pub nameAtFront : List ℕ → List ℕ
 nameAtFront f = run isName f
 
+-- what stands behind the name in a field
 abbrev pub behindName : List ℕ → List ℕ
 behindName f = past isName f
 
@@ -64,6 +75,7 @@ highestRunway l = pick (eqb l letterI) 36 18
 unfoldable pub runwayFits : Item → Bool
 runwayFits i = pick (onRunway (i .letter)) (validRunway (highestRunway (i .letter)) (i .number) (i .side)) (eqb (i .number) 0 and eqb (i .side) 0)
 
+-- from the one bound to the other
 abbrev pub isBetween : ℕ → ℕ → ℕ → Bool
 isBetween low high x = leb low x and leb x high
 
@@ -86,9 +98,11 @@ countFits i = pick (eqb (i .letter) letterN) (leb 1 (i .count)) (pick (eqb (i .l
 abbrev pub mostTaxiways : ℕ
 mostTaxiways = 8
 
+-- "1 to 3 capitals and digits"
 abbrev pub taxiwaySize : ℕ
 taxiwaySize = 3
 
+-- eight slots of three bytes
 abbrev pub taxiwayBytes : ℕ
 taxiwayBytes = 24
 
@@ -110,6 +124,7 @@ unfoldable pub slotsFit : ℕ → List ℕ → Bool
 slotsFit zero f = all isZero f
 slotsFit (suc n) f = validSlot (take taxiwaySize f) and isNew (take taxiwaySize f) (slots taxiwaySize n (drop taxiwaySize f)) and slotsFit n (drop taxiwaySize f)
 
+-- up to eight taxiways in their slots
 unfoldable pub taxiwaysFit : ℕ → List ℕ → Bool
 taxiwaysFit n f = leb n mostTaxiways and eqb (length f) taxiwayBytes and slotsFit n f
 
@@ -125,5 +140,6 @@ nameFits l f = eqb (length f) apronSize and all isZero (pick (eqb l letterR) (be
 unfoldable pub numbersFit : Item → Bool
 numbersFit i = member letters (i .letter) and runwayFits i and amountFits i and edgeFits i and countFits i
 
+-- its numbers, its taxiways and its name are such as its letter takes
 unfoldable pub validItem : Item → Bool
 validItem i = numbersFit i and taxiwaysFit (i .count) (i .taxiways) and nameFits (i .letter) (i .name)

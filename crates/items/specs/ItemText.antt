@@ -32,6 +32,7 @@ edgeName = nameAt ("" ∷ "L" ∷ "R" ∷ "LR" ∷ [])
 abbrev pub lengthText : Item → List Piece
 lengthText i = ofRunway i (bytes " REDUCED TO ") then number 3 (i .amount)
 
+-- M: "`RWY rr SNOWBANK` and L, R or LR with 01 to 99 joined, then `FM CL`"
 abbrev pub bankText : Item → List Piece
 bankText i = ofRunway i (bytes " SNOWBANK ") then spell (edgeName (i .edge)) then digits 2 (i .amount) then words " FM CL"
 
@@ -47,6 +48,7 @@ isNamed i = headIs isName (i .name)
 abbrev pub poorApron : Item → List Piece
 poorApron i = pick (isNamed i) (words "APRON " then verbatim (nameAtFront (i .name)) then words " POOR") (words "ALL APRON POOR")
 
+-- the text of each item, by its letter, without the full stop
 unfoldable pub itemText : Item → List Piece
 itemText i =
     pick (eqb (i .letter) letterI) (lengthText i)

@@ -9,12 +9,15 @@ use Rattle.text.specs.Read.{Got, got, guard}
 use Rattle.text.specs.Names.{isPlainByte}
 use Rattle.text.specs.Arrays.{isZero}
 
+-- "no leading space"
 abbrev pub spaceByte : ℕ
 spaceByte = 32
 
+-- "last a full stop"
 abbrev pub fullStop : ℕ
 fullStop = 46
 
+-- there is a last byte, and it is c
 unfoldable pub lastIs : ℕ → List ℕ → Bool
 lastIs c [] = false
 lastIs c (x ∷ []) = eqb x c
@@ -28,6 +31,7 @@ mostLanguage = 400
 unfoldable pub validLanguage : List ℕ → Bool
 validLanguage l = leb 2 (length l) and leb (length l) mostLanguage and all isPlainByte l and not (headIs (eqb spaceByte) l) and lastIs fullStop l
 
+-- a line that is plain language, byte by byte as it stands
 unfoldable pub wholeLanguage : List ℕ → Got (List ℕ)
 wholeLanguage l = guard (validLanguage l) (got l [])
 

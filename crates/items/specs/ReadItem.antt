@@ -34,9 +34,11 @@ opensApron = 4
 abbrev pub opensAllAprons : ℕ
 opensAllAprons = 5
 
+-- all of them
 abbrev pub openings : List ℕ
 openings = opensRunway ∷ opensDrifting ∷ opensTaxiways ∷ opensAllTaxiways ∷ opensApron ∷ opensAllAprons ∷ []
 
+-- the words of each, at its number
 abbrev pub openingName : ℕ → List ℕ
 openingName = nameAt ("RWY" ∷ "DRIFTING SNOW" ∷ "TWY" ∷ "ALL TWY POOR" ∷ "APRON" ∷ "ALL APRON POOR" ∷ [])
 
@@ -44,6 +46,7 @@ openingName = nameAt ("RWY" ∷ "DRIFTING SNOW" ∷ "TWY" ∷ "ALL TWY POOR" ∷
 abbrev pub sayings : List ℕ
 sayings = letterI ∷ letterK ∷ letterL ∷ letterM ∷ letterO ∷ []
 
+-- the words of each
 abbrev pub saying : ℕ → List ℕ
 saying l =
     pick (eqb l letterI) (bytes " REDUCED TO")
@@ -56,22 +59,27 @@ saying l =
 abbrev pub taxiSayings : List ℕ
 taxiSayings = letterN ∷ letterP ∷ []
 
+-- the words of each
 abbrev pub taxiSaying : ℕ → List ℕ
 taxiSaying l = pick (eqb l letterN) (bytes " SNOWBANK") (bytes " POOR")
 
--- an edge and an amount: those of a snowbank, or a length, or neither
+-- the edges as they are tried: LR before L, which it begins with
 abbrev pub edges : List ℕ
 edges = 3 ∷ 1 ∷ 2 ∷ []
 
+-- an edge and an amount: I has a length and no edge
 unfoldable pub readLength : List ℕ → Got (ℕ × ℕ)
 readLength = readAs (λ n. (0, n)) (readGap (readNumber 3))
 
+-- M has an edge, and the distance joined to it
 unfoldable pub readBank : List ℕ → Got (ℕ × ℕ)
 readBank = readGap (readSeq (readName edgeName edges) (readBefore (readDigits 2) (bytes " FM CL")))
 
+-- K, L and O have neither
 unfoldable pub readNeither : List ℕ → Got (ℕ × ℕ)
 readNeither = readAs (λ _. (0, 0)) readNothing
 
+-- what the letter calls for
 unfoldable pub readDetail : ℕ → List ℕ → Got (ℕ × ℕ)
 readDetail letter = pick (eqb letter letterI) readLength (pick (eqb letter letterM) readBank readNeither)
 
@@ -91,15 +99,19 @@ taxiItem p =
     let (names, letter) = p in
     record { letter = letter; number = 0; side = 0; amount = 0; edge = 0; count = length names; taxiways = pad taxiwayBytes 0 (flat (map (pad taxiwaySize 0) names)); name = replicate apronSize 0 }
 
+-- the item of one apron
 abbrev pub apronItem : List ℕ → Item
 apronItem name′ = record { letter = letterR; number = 0; side = 0; amount = 0; edge = 0; count = 0; taxiways = replicate taxiwayBytes 0; name = pad apronSize 0 name′ }
 
+-- one taxiway
 unfoldable pub readTaxiway : List ℕ → Got (List ℕ)
 readTaxiway = readIf isTaxiway (readRun isName)
 
+-- up to n of them, each behind a gap
 abbrev pub readSomeTaxiways : ℕ → List ℕ → Got (List (List ℕ))
 readSomeTaxiways = readMany (readGap readTaxiway)
 
+-- "1 to 8 taxiways"
 unfoldable pub readTaxiways : List ℕ → Got (List (List ℕ))
 readTaxiways = readIf (λ ws. not (isEmpty ws)) (readSomeTaxiways mostTaxiways)
 
@@ -107,6 +119,7 @@ readTaxiways = readIf (λ ws. not (isEmpty ws)) (readSomeTaxiways mostTaxiways)
 abbrev pub isApron : List ℕ → Bool
 isApron w = leb 1 (length w) and leb (length w) apronSize
 
+-- an apron's name
 unfoldable pub readApron : List ℕ → Got (List ℕ)
 readApron = readIf isApron (readRun isName)
 
@@ -126,6 +139,7 @@ readApronForm = readAs apronItem (readGap (readBefore readApron (bytes " POOR"))
 unfoldable pub readBareForm : ℕ → List ℕ → Got Item
 readBareForm l = readAs (λ _. bareItem l) readNothing
 
+-- what stands behind each opening
 unfoldable pub readForm : ℕ → List ℕ → Got Item
 readForm k =
     pick (eqb k opensRunway) readRunwayForm
@@ -139,5 +153,6 @@ readForm k =
 unfoldable pub readBody : List ℕ → Got Item
 readBody = readAs (λ p. p .1) (readBind (readName openingName openings) readForm)
 
+-- an item with its full stop, if it is valid
 unfoldable pub readItem : List ℕ → Got Item
 readItem = readIf validItem (readBefore readBody (bytes "."))

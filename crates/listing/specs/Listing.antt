@@ -39,5 +39,6 @@ refusedLine n = bytes "REFUSED" ++ (counted n ++ (10 ∷ []))
 unfoldable pub listed : Reading → List ℕ
 listed a = pick (eqb (a .refusal) 0) (acceptedLine (a .«record») ++ noticeText (a .«record»)) (refusedLine (a .refusal))
 
+-- what the lister prints of a message
 unfoldable pub listing : List ℕ → List ℕ
 listing m = listed (reading m)

@@ -37,9 +37,11 @@ readNotice ls₁ =
     next (readRemarks (block .after)) (λ remarks.
     agreeing heading serial aerodrome (block .rows) (makeRecord addresses filing (heading .title) (block .rows) remarks))))))))
 
+-- the answer to a message that is taken
 abbrev pub accepted : Record → Reading
 accepted r = record { refusal = 0; «record» = r }
 
+-- the answer to one that is refused: its number and the blank record
 abbrev pub refused : ℕ → Reading
 refused n = record { refusal = n; «record» = blankRecord }
 
@@ -52,5 +54,6 @@ result (taken r) = accepted r
 abbrev pub longest : ℕ
 longest = 4096
 
+-- "1 first, then line by line"
 unfoldable pub reading : List ℕ → Reading
 reading m = pick (leb (length m) longest) (result (readNotice (lines m))) (refused 1)

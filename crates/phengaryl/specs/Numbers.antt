@@ -25,5 +25,6 @@ thirdAt ns i = third (getD ns i 0) (getD ns (i + 1) 0) (getD ns (i + 2) 0) (getD
 abbrev pub thirdsOf : List ℕ → List Third
 thirdsOf ns = thirdAt ns 0 ∷ thirdAt ns 4 ∷ thirdAt ns 8 ∷ []
 
+-- a row given as numbers
 abbrev pub rowOf : ℕ → ℕ → ℕ → List Third → ℕ → Row
 rowOf time number side ts width = record { time = time; number = number; side = side; thirds = ts; width = width }

@@ -20,6 +20,7 @@ use Rattle.remarks.specs.declared.Tail.{Tail}
 abbrev pub noRemarks : ℕ → RemarksRead
 noRemarks n = record { refusal = n; items = makeItems []; language = makeLanguage [] }
 
+-- the answer that a reading of the remarks stands for
 abbrev pub remarksAnswer : Out Remarks → RemarksRead
 remarksAnswer (refuse n) = noRemarks n
 remarksAnswer (taken x) = record { refusal = 0; items = makeItems (x .items); language = makeLanguage (x .language) }
@@ -36,6 +37,7 @@ ending l left = pick (eqb left 0) (record { refusal = 0; language = l }) (noTail
 unfoldable pub lastItems : ℕ → ℕ → Tail
 lastItems count left = pick (eqb count 0) (noTail 8) (ending (makeLanguage []) left)
 
+-- plain language that `)` closes: 9 where it does not fit
 unfoldable pub lastLanguage : LanguageRead → ℕ → Tail
 lastLanguage r left = pick (r .fits) (ending (record { length = r .length; bytes = r .bytes }) left) (noTail 9)
 

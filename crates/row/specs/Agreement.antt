@@ -8,13 +8,16 @@ use Rattle.row.specs.Row.{validRow}
 use Rattle.row.specs.declared.Row.{Row}
 use Rattle.row.specs.declared.Agreement.{Agreement}
 
+-- 1 for a third whose code Table 1 does not allow
 unfoldable pub disagrees : Third → ℕ
 disagrees t = pick (agrees t) 0 1
 
+-- and their count
 unfoldable pub disagreements : List Third → ℕ
 disagreements [] = 0
 disagreements (t ∷ ts) = disagrees t + disagreements ts
 
+-- "row invalid"
 abbrev pub invalidRow : ℕ
 invalidRow = 19
 

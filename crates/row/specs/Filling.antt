@@ -15,22 +15,27 @@ use Rattle.row.specs.declared.Row.{Row}
 use Rattle.row.specs.declared.Step.{Step}
 use Rattle.row.specs.declared.RowRead.{RowRead}
 
--- the row with one group more
+-- the row with one group more: its time
 abbrev pub withTime : Row → ℕ → Row
 withTime r t = record { time = t; number = r .number; side = r .side; thirds = r .thirds; width = r .width }
 
+-- its runway
 abbrev pub withRunway : Row → ℕ × ℕ → Row
 withRunway r p = record { time = r .time; number = p .0; side = p .1; thirds = r .thirds; width = r .width }
 
+-- all that its thirds hold
 abbrev pub withThirds : Row → Three → Rest → Row
 withThirds r code rest = record { time = r .time; number = r .number; side = r .side; thirds = makeThirds code rest; width = r .width }
 
+-- its codes, all else NR so far
 abbrev pub withCodes : Row → Three → Row
 withCodes r code = withThirds r code (allNR, (allNR, allNR))
 
+-- coverages, depths and descriptions beside its codes
 abbrev pub withRest : Row → Rest → Row
 withRest r = withThirds r (numbersOf codes r)
 
+-- its width
 abbrev pub withWidth : Row → ℕ → Row
 withWidth r w = record { time = r .time; number = r .number; side = r .side; thirds = r .thirds; width = w }
 

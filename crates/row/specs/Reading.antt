@@ -26,9 +26,11 @@ makeThirds code rest =
     ∷ third (code .2) (coverage .2) (depth .2) (description .2)
     ∷ []
 
+-- "both stand"
 unfoldable pub readFull : List ℕ → Got Rest
 readFull = readSeq (readGroup coverages) (readSeq (readGroup depths) (readGroup descriptions))
 
+-- coverages or depths that are left out
 abbrev pub allNR : Three
 allNR = (notReported, notReported, notReported)
 
@@ -48,9 +50,11 @@ readWidth = readOr (readGap (readIf (λ w. leb 1 w) (readDigits 2))) (λ m. got 
 abbrev pub Groups : Type 0
 Groups = ℕ × ((ℕ × ℕ) × (Three × (Rest × ℕ)))
 
+-- the groups of a row, one behind the other
 abbrev pub readGroups : List ℕ → Got Groups
 readGroups = readSeq (readDigits 8) (readSeq (readGap readRunway) (readBind (readGroup codes) (λ code. readSeq (readRest code) readWidth)))
 
+-- the row that they make
 abbrev pub makeRow : Groups → Row
 makeRow groups =
     let (time, ((number, side), (code, (rest, width)))) = groups in

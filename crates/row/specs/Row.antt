@@ -23,6 +23,7 @@ blankRow = record { time = 0; number = 0; side = 0; thirds = blankThird ∷ blan
 unfoldable pub threeThat : (Third → Bool) → List Third → Bool
 threeThat test ts = eqb (length ts) 3 and all test ts
 
+-- all zero
 unfoldable pub isBlankRow : Row → Bool
 isBlankRow r = eqb (r .time) 0 and eqb (r .number) 0 and eqb (r .side) 0 and eqb (r .width) 0 and threeThat isBlankThird (r .thirds)
 
@@ -46,9 +47,11 @@ validRow r =
 unfoldable pub isBare : Third → Bool
 isBare t = eqb (t .coverage) notReported and eqb (t .depth) notReported
 
+-- its code is 6
 unfoldable pub isSix : Third → Bool
 isSix t = eqb (t .code) 6
 
+-- its description is DRY
 unfoldable pub isDry : Third → Bool
 isDry t = eqb (t .description) dry
 
@@ -67,6 +70,7 @@ field kind t =
     (pick (eqb kind coverages) (t .coverage)
     (pick (eqb kind depths) (t .depth) (t .description)))
 
+-- the numbers of a group, third by third
 abbrev pub numbersOf : ℕ → Row → Three
 numbersOf kind r = (field kind (thirdOf r 0), field kind (thirdOf r 1), field kind (thirdOf r 2))
 
@@ -78,6 +82,7 @@ groupOf kind r = groupPieces kind (numbersOf kind r)
 unfoldable pub middlePieces : Row → List Piece
 middlePieces r = pick (isShort (r .thirds)) (nrGroups ∷ []) (groupOf coverages r then groupOf depths r)
 
+-- "missing, or 01 to 99"
 unfoldable pub widthPieces : ℕ → List Piece
 widthPieces w = pick (eqb w 0) [] (space then digits 2 w)
 

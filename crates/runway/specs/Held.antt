@@ -14,6 +14,7 @@ pub record HeldSide (m : List ℕ) (g : Got ℕ) (r : Side) : Type 0 where
   pub within : r .next ≤ length m
   pub says : g ≡ got (r .side) (drop (r .next) m)
 
+-- no runway: a misfit is all zero
 abbrev pub noRunway : RunwayFound
 noRunway = record { fits = false; number = 0; side = 0; next = 0 }
 

@@ -25,12 +25,14 @@ sideOf c = pick (eqb c 76) 1 (pick (eqb c 67) 2 (pick (eqb c 82) 3 0))
 unfoldable pub validRunway : ℕ → ℕ → ℕ → Bool
 validRunway highest number side = leb 1 number and leb number highest and leb side 3
 
+-- a runway's text
 abbrev pub runwayPieces : ℕ → ℕ → List Piece
 runwayPieces number side = digits 2 number then spell (sideName side)
 
--- any two digits: the rows and items say which numbers they take
+-- the side, perhaps none
 abbrev pub readSide : List ℕ → Got ℕ
 readSide = readAs sideOf (maybeByte isSide)
 
+-- any two digits, and the side: the rows and items say which numbers they take
 abbrev pub readRunway : List ℕ → Got (ℕ × ℕ)
 readRunway = readSeq (readDigits 2) readSide

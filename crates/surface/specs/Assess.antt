@@ -80,6 +80,7 @@ assessed o = pick (ltb (o .cover) leastCover) (uncovered (o .kind)) (covered (re
 abbrev pub outOfRange : ℕ
 outOfRange = 15
 
+-- and the second of them
 abbrev pub contradiction : ℕ
 contradiction = 16
 

@@ -10,6 +10,7 @@ use Rattle.text.specs.Names.{nameAt}
 abbrev pub notReported : ℕ
 notReported = 0
 
+-- the fifteen, in the order of the document
 abbrev pub compactedSnow : ℕ
 compactedSnow = 1
 

@@ -17,12 +17,15 @@ use Rattle.surface.specs.Descriptions.{notReported, compactedSnow, drySn
 abbrev pub line : ℕ → ℕ → Condition → Line
 line c k q = record { 0 = c; 1 = k; 2 = q }
 
+-- the code of a line
 abbrev pub code : Line → ℕ
 code l = l .0
 
+-- its kind
 abbrev pub kind : Line → ℕ
 kind l = l .1
 
+-- and the condition under which it holds
 abbrev pub condition : Line → Condition
 condition l = l .2
 
@@ -55,6 +58,7 @@ table1 =
 unfoldable pub isShallow : ℕ → Bool
 isShallow depth = leb depth 3
 
+-- the number n below zero
 abbrev pub minus : ℕ → ℤ
 minus zero = pos 0
 minus (suc n) = negsuc n

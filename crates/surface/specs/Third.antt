@@ -7,6 +7,7 @@ use Rattle.text.specs.Choice.{pick, _and_, member}
 use Rattle.surface.specs.declared.Third.{Third}
 use Rattle.surface.specs.Descriptions.{notReported, standingWater, isDescription, isContaminant, isDeep}
 
+-- a third of a code, a coverage, a depth and a description
 abbrev pub third : ℕ → ℕ → ℕ → ℕ → Third
 third code coverage depth description = record { code = code; coverage = coverage; depth = depth; description = description }
 
@@ -14,6 +15,7 @@ third code coverage depth description = record { code = code; coverage = coverag
 abbrev pub blankThird : Third
 blankThird = third 0 notReported notReported notReported
 
+-- all zero
 unfoldable pub isBlankThird : Third → Bool
 isBlankThird t = eqb (t .code) 0 and eqb (t .coverage) notReported and eqb (t .depth) notReported and eqb (t .description) notReported
 
@@ -37,6 +39,7 @@ leastDepth d = pick (eqb d standingWater) 4 3
 unfoldable pub isReported : ℕ → ℕ → Bool
 isReported description depth = isDeep description and leb (leastDepth description) depth
 
+-- "03 to 999"
 abbrev pub greatestDepth : ℕ
 greatestDepth = 999
 

@@ -42,5 +42,6 @@ sameAll p [] (b ∷ bs) = false
 sameAll p (a ∷ as′) [] = false
 sameAll p (a ∷ as′) (b ∷ bs) = p a b and sameAll p as′ bs
 
+-- byte by byte
 abbrev pub sameBytes : List ℕ → List ℕ → Bool
 sameBytes = sameAll eqb

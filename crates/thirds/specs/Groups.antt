@@ -27,6 +27,7 @@ descriptions = 3
 unfoldable pub measurePieces : ℕ → List Piece
 measurePieces x = pick (eqb x notReported) (words "NR") (number 2 x)
 
+-- the same read
 unfoldable pub readMeasure : List ℕ → Got ℕ
 readMeasure = readOr (readWord (bytes "NR") notReported) (readIf (λ x. leb 1 x) (readNumber 2))
 
@@ -47,6 +48,7 @@ descriptionOrder =
     ∷ wetSnowOnCompactedSnow ∷ wetSnowOnIce ∷ wetSnow ∷ wetIce ∷ wet
     ∷ []
 
+-- the first of them that stands here
 unfoldable pub readDescription : List ℕ → Got ℕ
 readDescription = readName descriptionName descriptionOrder
 
@@ -57,6 +59,7 @@ thirdPieces kind x =
     (pick (eqb kind coverages) (measurePieces x)
     (pick (eqb kind depths) (measurePieces x) (descriptionPieces x)))
 
+-- the same read
 unfoldable pub readThird : ℕ → List ℕ → Got ℕ
 readThird kind m =
     pick (eqb kind codes) (readDigits 1 m)
@@ -75,9 +78,11 @@ Three = ℕ × ℕ × ℕ
 abbrev pub slash : List Piece
 slash = verbatim (bytes "/")
 
+-- the texts of three thirds
 abbrev pub joined : (ℕ → List Piece) → Three → List Piece
 joined f t = f (t .0) then slash then f (t .1) then slash then f (t .2)
 
+-- the same read
 abbrev pub readThree : (List ℕ → Got ℕ) → List ℕ → Got Three
 readThree f = readAs (λ p. (p .0, p .1 .0, p .1 .1)) (readSeq f (readSeq (readAfter (bytes "/") f) (readAfter (bytes "/") f)))
 
@@ -85,5 +90,6 @@ readThree f = readAs (λ p. (p .0, p .1 .0, p .1 .1)) (readSeq f (readSeq (readA
 abbrev pub groupPieces : ℕ → Three → List Piece
 groupPieces kind t = space then joined (thirdPieces kind) t
 
+-- the same read
 unfoldable pub readGroup : ℕ → List ℕ → Got Three
 readGroup kind = readGap (readThree (readThird kind))

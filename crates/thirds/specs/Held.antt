@@ -13,9 +13,11 @@ use Rattle.text.specs.declared.Found.{Found}
 use Rattle.thirds.specs.Groups.{Three}
 use Rattle.thirds.specs.declared.Trio.{Trio}
 
+-- no group: a misfit is all zero
 abbrev pub noTrio : Trio
 noTrio = record { fits = false; one = 0; two = 0; three = 0; next = 0 }
 
+-- the three numbers of an answer
 abbrev pub trio : Trio → Three
 trio r = (r .one, r .two, r .three)
 
