@@ -8,11 +8,12 @@ use lib.ListN.{drop}
 use Rattle.text.specs.Choice.{pick, _and_}
 use Rattle.text.specs.Read.{Got, misfit, got, guard, readText, readGap, readIf}
 use Rattle.text.specs.Names.{readName}
+use Rattle.text.specs.Texts.{named}
 use Rattle.text.specs.Numbers.{readDigits, readNumber}
 use Rattle.text.specs.Held.{Held, none, readWord}
 use Rattle.text.specs.Laws.Held.{held-text}
 use Rattle.text.specs.Laws.Numbers.{number-laws, digits-laws}
-use Rattle.text.specs.Laws.Words.{shared}
+use Rattle.text.specs.Laws.Words.{first-cut}
 use Rattle.text.specs.declared.Found.{Found}
 use Rattle.items.specs.Item.{validItem}
 use Rattle.items.specs.ItemText.{edgeName}
@@ -43,11 +44,11 @@ module _ (t m : List ℕ) (v : ℕ) {k : List ℕ} {r : Found} (h : Held k (read
 -- all that is said begins with a gap
 pub sayings-gap : (m : List ℕ) → readName saying sayings m ≡ readGap (readName (unspaced saying) sayings) m
 unfolding readName
-sayings-gap m = shared (32 ∷ []) (unspaced saying) sayings m
+sayings-gap m = first-cut (32 ∷ []) (named (unspaced saying) sayings) m
 
 pub taxi-sayings-gap : (m : List ℕ) → readName taxiSaying taxiSayings m ≡ readGap (readName (unspaced taxiSaying) taxiSayings) m
 unfolding readName
-taxi-sayings-gap m = shared (32 ∷ []) (unspaced taxiSaying) taxiSayings m
+taxi-sayings-gap m = first-cut (32 ∷ []) (named (unspaced taxiSaying) taxiSayings) m
 
 -- so the gap is read once: it does not stand there, or what is read behind it is the answer
 module _ (name : ℕ → List ℕ) (ns m : List ℕ) (e : readName name ns m ≡ readGap (readName (unspaced name) ns) m) {k : List ℕ} {g : Found} (h : Held k (readWord (32 ∷ []) 0 m) g) where

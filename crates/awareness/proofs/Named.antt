@@ -12,9 +12,8 @@ use Rattle.text.specs.Names.{isName, past, readRun}
 use Rattle.text.specs.Held.{Reached, Spanned, noSpan}
 use Rattle.text.specs.Laws.Base.{then-got, guard-got, carry}
 use Rattle.text.specs.Laws.Held.{part-all}
-use Rattle.items.specs.Laws.Slots.{name-named}
 use Rattle.text.specs.declared.Span.{Span}
-use Rattle.text.specs.Laws.Runs.{run-taken}
+use Rattle.text.specs.Laws.Runs.{run-in, run-taken}
 
 -- a run of bytes from a place on
 pub run-span : (p : ℕ → Bool) (m : List ℕ) (i : ℕ) {n : ℕ} → Reached (take (length m - i) (drop i m)) (past p (take (length m - i) (drop i m))) n
@@ -78,7 +77,7 @@ module _ (p : List ℕ → Bool) (m k : List ℕ) {r : Span} (h : Spanned m (rea
 -- what is known of a name that was read
 module _ (m : List ℕ) {w r : List ℕ} where
   pub name-bytes : readGap (readRun isName) m ≡ got w r → all isName w ≡ true
-  name-bytes e = let t = then-got (readText (32 ∷ []) m) e in carry (λ a _. all isName a ≡ true) (t .two) (name-named (t .mid))
+  name-bytes e = let t = then-got (readText (32 ∷ []) m) e in carry (λ a _. all isName a ≡ true) (t .two) (run-in isName (t .mid))
 
   pub name-passed : (p : List ℕ → Bool) → readGap (readIf p (readRun isName)) m ≡ got w r → p w ≡ true
   name-passed p e =

@@ -7,17 +7,17 @@ use native.Mathlib.Numerals.{add-one}
 use native.Mathlib.Omega.{arith}
 use lib.Dec.{eqb, ltb}
 use lib.ListN.{length, take, drop, set, length-append, length-take, length-drop, drop-of-length-le}
-use lib.Seq.{drop-cons, drop-drop, length-take-le, take-suc-set}
+use lib.Seq.{drop-drop, length-take-le, take-suc-set}
 use borrow.Author.Tests.{ne-eqb, eq-eqb, ltb-true, ltb-false}
 use Rattle.text.specs.Choice.{pick, isEmpty}
 use Rattle.text.specs.Read.{Got, misfit, got}
-use Rattle.text.specs.Lines.{lines, lineSize, lineStep, linesSize, closed, opened}
+use Rattle.text.specs.Lines.{lines, linesSize, closed, opened}
 use Rattle.text.specs.declared.Line.{Line}
 use Rattle.text.specs.Held.{firstLine}
 use Rattle.text.specs.Laws.Base.{true-false}
 use Rattle.text.specs.Laws.Arrays.{pad-length, pad-more}
 use Rattle.text.specs.Laws.Held.{part-all}
-use Rattle.text.specs.Laws.Lines.{lines-first, line-within, size-within, size-more}
+use Rattle.text.specs.Laws.Lines.{first-lines, line-within, size-within, size-more}
 use Rattle.row.specs.declared.Row.{Row}
 use Rattle.row.specs.Row.{blankRow}
 use Rattle.row.specs.Reading.{wholeRow, answer}
@@ -122,9 +122,7 @@ module _ {m : List ℕ} {rows : List Row} {count at : ℕ} (s : SoFar m rows cou
     next-lies = let w = size-more count m in rw (line-is, s .lies, w)
 
     first : readRows mostRows [] (lines m) ≡ readRows (mostRows - count) rs (text ∷ rest)
-    first =
-        let e : lines (drop at m) ≡ take (lineSize (drop at m)) (drop at m) ∷ lines (drop (lineStep (drop at m)) (drop at m)) = rw (drop-cons m at 0 h) (lines-first _ _) in
-        s .left ∙ ap (readRows (mostRows - count) rs) e ∙ rw (line-is, drop-drop)
+    first = s .left ∙ ap (readRows (mostRows - count) rs) (first-lines (drop at m) (omega (arith, length-drop at m))) ∙ rw (line-is, drop-drop)
 
     -- it lies within the message
     pub within : (at + line .size ≤ length m) × (next ≤ length m)
@@ -195,7 +193,7 @@ module _ {m : List ℕ} {rows : List Row} {count at : ℕ} (s : SoFar m rows cou
                 go : (t : Bool) → ltb next (length m) ≡ t → RowsHeld m (rowsAnswer (pick t 4 0) (held (count + 1) (set rows count (r .row))) true next)
                 go true e =
                     let l = ltb-true next (length m) e in
-                    refused m 4 refl (said ∙ rw (drop-cons m next 0 l, lines-first)) (held (count + 1) (set rows count (r .row))) true next
+                    refused m 4 refl (said ∙ rw (first-lines (drop next m) (omega (arith, length-drop next m)))) (held (count + 1) (set rows count (r .row))) true next
                 go false e =
                     let l = ltb-false next (length m) e in
                     let one = grown-rows (s .kept) (r .row) f in

@@ -10,17 +10,18 @@ use borrow.Author.Tests.{eqb-true, ne-eqb}
 use native.Mathlib.Omega.{arith}
 use Rattle.text.specs.Choice.{pick}
 use Rattle.text.specs.Piece.{gap, byte, canonical, canonical1, bytes, spell}
-use Rattle.text.specs.Read.{Got, misfit, got, orElse, andThen, readText, readAfter}
+use Rattle.text.specs.Read.{Got, misfit, got, orElse, readText}
 use Rattle.text.specs.Names.{readName}
+use Rattle.text.specs.Texts.{Texts, readFirst, behind, named}
 use Rattle.text.specs.Held.{Held, none, readWord}
 use Rattle.text.specs.Put.{Put}
 use Rattle.text.specs.declared.Found.{Found}
-use Rattle.text.specs.Laws.Words.{word-cut}
+use Rattle.text.specs.Laws.Words.{first-cut}
 use Rattle.surface.specs.Descriptions.{waterOnCompactedSnow, dry, descriptionName}
 use Rattle.thirds.specs.Groups.{descriptionPieces, descriptionOrder, readDescription}
 use Rattle.thirds.specs.Held.{Tried}
 use Rattle.thirds.specs.Laws.Sizes.{no-name}
-use Rattle.thirds.specs.Parts.{Texts, readFirst, behind, longer, wets}
+use Rattle.thirds.specs.Parts.{longer, wets}
 use Rattle.thirds.proofs.Steps.{nothing, after-on, after-off, itself, else-on, else-off}
 
 else-none : {A : Type 0} (g : Got A) → orElse g misfit ≡ g
@@ -30,19 +31,6 @@ else-none (got a r) = refl
 else-assoc : {A : Type 0} (f g h : Got A) → orElse (orElse f g) h ≡ orElse f (orElse g h)
 else-assoc misfit g h = refl
 else-assoc (got a r) g h = refl
-
--- what the texts share is read once
-first-cut : (p : List ℕ) (ts : Texts) (m : List ℕ) → readFirst (behind p ts) m ≡ readAfter p (readFirst ts) m
-first-cut p [] m = go (readText p m)
-  where
-    go : (g : Got (Unit {0})) → misfit ≡ andThen {B = ℕ} g (λ _ k. misfit)
-    go misfit = refl
-    go (got a k) = refl
-first-cut p (t ∷ ts) m = rw (first-cut p ts m, word-cut p (t .0) (t .1) m) (go (readText p m))
-  where
-    go : (g : Got (Unit {0})) → orElse (andThen g (λ _ k. readWord (t .0) (t .1) k)) (andThen g (λ _ k. readFirst ts k)) ≡ andThen g (λ _ k. readFirst (t ∷ ts) k)
-    go misfit = refl
-    go (got a k) = refl
 
 -- one more text is tried last
 first-more : (ts : Texts) (t : List ℕ) (v : ℕ) (m : List ℕ) → readFirst (ts ++ ((t, v) ∷ [])) m ≡ orElse (readFirst ts m) (readWord t v m)
@@ -101,24 +89,17 @@ first-only b k ((c ∷ cs, v) ∷ ts) = rw (first-only b k ts) (go (eqb c b) ref
     go false e = rw e
 
 -- the descriptions, each with its number
-abbrev pub named : List ℕ → Texts
-named [] = []
-named (n ∷ ns) = (descriptionName n, n) ∷ named ns
-
--- one after the other they are the names
-named-read : (ns m : List ℕ) → readName descriptionName ns m ≡ readFirst (named ns) m
-unfolding readName
-named-read [] m = refl
-named-read (n ∷ ns) m = rw (named-read ns m)
+abbrev numbered : Texts
+numbered = named descriptionName descriptionOrder
 
 module _ (b i : ℕ) (m : List ℕ) (h : i < length m) (e : getD m i 0 ≡ b) where
   here : drop i m ≡ b ∷ drop (suc i) m
   here = drop-cons m i 0 h ∙ ap (λ (x : ℕ). x ∷ drop (suc i) m) e
 
   -- the byte at i says which descriptions can stand there
-  pub by-byte : {r : Found} → Held m (readFirst (starting b (named descriptionOrder)) (drop i m)) r → Held m (readDescription (drop i m)) r
-  unfolding readDescription
-  by-byte q = rw (named-read descriptionOrder (drop i m), here, first-only b (drop (suc i) m) (named descriptionOrder)) (rw here at q)
+  pub by-byte : {r : Found} → Held m (readFirst (starting b numbered) (drop i m)) r → Held m (readDescription (drop i m)) r
+  unfolding readDescription readName
+  by-byte q = rw (here, first-only b (drop (suc i) m) numbered) (rw here at q)
 
   -- no description begins by any other byte than these
   pub by-other : (b ≡ 78 → ⊥) → (b ≡ 67 → ⊥) → (b ≡ 68 → ⊥) → (b ≡ 70 → ⊥) → (b ≡ 73 → ⊥) → (b ≡ 83 → ⊥) → (b ≡ 87 → ⊥) → Held m (readDescription (drop i m)) none
@@ -133,12 +114,12 @@ abbrev wetOrWater : Texts
 wetOrWater = wets ++ ((bytes "WATER ON TOP OF COMPACTED SNOW", waterOnCompactedSnow) ∷ [])
 
 -- in either order: WATER and WET part at their second byte
-either-order : (k : List ℕ) → readFirst wetOrWater (87 ∷ k) ≡ readFirst (starting 87 (named descriptionOrder)) (87 ∷ k)
+either-order : (k : List ℕ) → readFirst wetOrWater (87 ∷ k) ≡ readFirst (starting 87 numbered) (87 ∷ k)
 unfolding readText
 either-order [] = refl
 either-order (x ∷ k) = go (eqb 65 x) refl
   where
-    go : (t : Bool) → eqb 65 x ≡ t → readFirst wetOrWater (87 ∷ x ∷ k) ≡ readFirst (starting 87 (named descriptionOrder)) (87 ∷ x ∷ k)
+    go : (t : Bool) → eqb 65 x ≡ t → readFirst wetOrWater (87 ∷ x ∷ k) ≡ readFirst (starting 87 numbered) (87 ∷ x ∷ k)
     go true e = rw (← eqb-true 65 x e) refl
     go false e = rw e refl
 

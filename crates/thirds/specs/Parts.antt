@@ -2,23 +2,10 @@
 use Prim.Native.Nat.{ℕ}
 use mathlib.Core.List.{List, [], _∷_, _++_}
 use Rattle.text.specs.Piece.{bytes}
-use Rattle.text.specs.Read.{Got, misfit, orElse}
-use Rattle.text.specs.Held.{readWord}
+-- the promises name readFirst by this file
+pub use Rattle.text.specs.Texts.{readFirst}
+use Rattle.text.specs.Texts.{Texts, behind}
 use Rattle.surface.specs.Descriptions.{drySnow, drySnowOnCompactedSnow, drySnowOnIce, wet, wetIce, wetSnow, wetSnowOnCompactedSnow, wetSnowOnIce, dry}
-
--- texts, each with its value
-abbrev pub Texts : Type 0
-Texts = List (List ℕ × ℕ)
-
--- the first of them that stands here
-abbrev pub readFirst : Texts → List ℕ → Got ℕ
-readFirst [] m = misfit
-readFirst (t ∷ ts) m = orElse (readWord (t .0) (t .1) m) (readFirst ts m)
-
--- each with p before it
-abbrev pub behind : List ℕ → Texts → Texts
-behind p [] = []
-behind p (t ∷ ts) = (p ++ t .0, t .1) ∷ behind p ts
 
 -- each with p before it, and then p alone with the value v
 abbrev pub longer : List ℕ → Texts → ℕ → Texts

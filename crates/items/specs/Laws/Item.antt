@@ -16,13 +16,14 @@ use Rattle.text.specs.Laws.Combine.{bind-laws, before-laws, made-laws, if-laws,
 use Rattle.text.specs.Laws.Names.{table-laws, good}
 use Rattle.text.specs.Laws.Many.{every-at}
 use Rattle.text.specs.Laws.Sizes.{run-size}
+use Rattle.text.specs.Laws.Runs.{run-in}
 use Rattle.text.specs.Laws.Arrays.{zeros-replicate, slots-back, slots-length}
 use Rattle.runway.specs.Runway.{validRunway}
 use Rattle.items.specs.declared.Item.{Item}
 use Rattle.items.specs.Item.{letters, letterI, letterJ, letterM, letterN, letterP, letterR, onRunway, onTaxiways, nameAtFront, validSlot, runwayFits, amountFits, edgeFits, countFits, slotsFit, taxiwaysFit, nameFits, numbersFit, validItem}
 use Rattle.items.specs.ItemText.{taxiwaysOf, isNamed, itemText, itemPieces}
 use Rattle.items.specs.ReadItem.{openings, openingName, sayings, taxiSayings, edges, bareItem, readBody, readItem}
-use Rattle.items.specs.Laws.Slots.{zero-of, name-back, name-named, slots-names, slots-pads}
+use Rattle.items.specs.Laws.Slots.{zero-of, name-back, slots-names, slots-pads}
 use Rattle.items.specs.Laws.Forms.{Detail, Apron, Form, formPieces, form-laws}
 
 -- which opening an item has
@@ -156,7 +157,7 @@ apron-named : (i : Item) → Valid i → isNamed i ≡ true → Apron (nameAtFro
 apron-named i v n =
     let k = run-size isName (i .name) in
     let l = name-long (i .letter) (i .name) (v .name) in
-    (name-named (i .name), and-i (named-head (i .name) ∙ n) (le-leb (length (nameAtFront (i .name))) 16 (omega arith)))
+    (run-in isName (i .name), and-i (named-head (i .name) ∙ n) (le-leb (length (nameAtFront (i .name))) 16 (omega arith)))
 
 -- letters apart
 runway-letters : (l : ℕ) → onRunway l ≡ true → (onTaxiways l ≡ false) × (eqb l letterR ≡ false)

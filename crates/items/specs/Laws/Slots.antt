@@ -12,6 +12,7 @@ use Rattle.text.specs.Arrays.{pad, isZero, slots, flat}
 use Rattle.text.specs.Laws.Base.{and-1, and-2, and-i}
 use Rattle.text.specs.Laws.Many.{Every}
 use Rattle.text.specs.Laws.Sizes.{run-size}
+use Rattle.text.specs.Laws.Runs.{run-in}
 use Rattle.text.specs.Laws.Arrays.{pad-split, pad-length, slots-flat, wide}
 use Rattle.items.specs.Item.{nameAtFront, behindName, isTaxiway, validSlot}
 
@@ -41,15 +42,6 @@ unfolding run
 name-there [] n h = zeros-no-name n
 name-there (x ∷ w) n h = rw (and-1 (isName x) (all isName w) h) (ap (λ l. x ∷ l) (name-there w n (and-2 (isName x) (all isName w) h)))
 
-pub name-named : (f : List ℕ) → all isName (nameAtFront f) ≡ true
-unfolding run
-name-named [] = refl
-name-named (x ∷ f) = go (isName x) refl (name-named f)
-  where
-    go : (t : Bool) → isName x ≡ t → all isName (run isName f) ≡ true → all isName (pick t (x ∷ run isName f) []) ≡ true
-    go true e h = and-i e h
-    go false e h = refl
-
 -- the first byte of an array is that of its name
 pub head-name : (p : ℕ → Bool) → ((x : ℕ) → p x ≡ true → isName x ≡ true) → (f : List ℕ) → headIs p f ≡ true → headIs p (nameAtFront f) ≡ true
 unfolding run
@@ -65,14 +57,14 @@ unfolding validSlot isTaxiway
 slot-good s h =
     let l = eqb-true (length s) 3 (and-1 _ _ h) in
     let k = run-size isName s in
-    (and-i (head-name isLetter letter-name s (and-1 _ _ (and-2 _ _ h))) (and-i (name-named s) (le-leb (length (nameAtFront s)) 3 (omega arith))), name-back 3 s l (and-2 _ _ (and-2 _ _ h)))
+    (and-i (head-name isLetter letter-name s (and-1 _ _ (and-2 _ _ h))) (and-i (run-in isName s) (le-leb (length (nameAtFront s)) 3 (omega arith))), name-back 3 s l (and-2 _ _ (and-2 _ _ h)))
 
 abbrev pub Taxiway : List ℕ → Type 0
 Taxiway w = (all isName w ≡ true) × (isTaxiway w ≡ true)
 
 pub slots-names : (ss : List (List ℕ)) → all validSlot ss ≡ true → Every Taxiway (map nameAtFront ss)
 slots-names [] h = tt
-slots-names (s ∷ ss) h = ((name-named s, slot-good s (and-1 _ _ h) .0), slots-names ss (and-2 _ _ h))
+slots-names (s ∷ ss) h = ((run-in isName s, slot-good s (and-1 _ _ h) .0), slots-names ss (and-2 _ _ h))
 
 pub slots-pads : (ss : List (List ℕ)) → all validSlot ss ≡ true → map (pad 3 0) (map nameAtFront ss) ≡ ss
 slots-pads [] h = refl

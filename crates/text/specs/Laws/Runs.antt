@@ -5,10 +5,11 @@ use mathlib.Core.List.{List, [], _∷_, _++_}
 use mathlib.Core.Bool.{Bool, true, false}
 use native.Mathlib.Omega.{arith}
 use lib.ListN.{length, take, drop}
-use Rattle.text.specs.Choice.{pick, headIs}
+use Rattle.text.specs.Choice.{pick, all, headIs}
 use Rattle.text.specs.Held.{Reached}
 use Rattle.text.specs.Names.{run, past}
 use Rattle.text.specs.Laws.Arrays.{take-front, drop-front}
+use Rattle.text.specs.Laws.Base.{and-i}
 use Rattle.text.specs.Laws.Held.{one-place}
 use Rattle.text.specs.Laws.Sizes.{run-size}
 
@@ -22,6 +23,16 @@ module _ (p : ℕ → Bool) where
       go : (t : Bool) → run p f ++ past p f ≡ f → pick t (x ∷ run p f) [] ++ pick t (past p f) (x ∷ f) ≡ x ∷ f
       go true h = ap (λ k. x ∷ k) h
       go false h = refl
+
+  -- all its bytes are of the class
+  pub run-in : (f : List ℕ) → all p (run p f) ≡ true
+  unfolding run
+  run-in [] = refl
+  run-in (x ∷ f) = go (p x) refl (run-in f)
+    where
+      go : (t : Bool) → p x ≡ t → all p (run p f) ≡ true → all p (pick t (x ∷ run p f) []) ≡ true
+      go true e h = and-i e h
+      go false e h = refl
 
   none-there : (f : List ℕ) → length (run p f) ≡ 0 → headIs p f ≡ false
   unfolding run

@@ -5,8 +5,8 @@ use mathlib.Core.List.{List, [], _∷_, _++_}
 use mathlib.Core.Bool.{Bool, true, false}
 use lib.Dec.{eqb}
 use Rattle.text.specs.Read.{Got, misfit, got, guard, orElse, andThen, after, readText, readAfter}
-use Rattle.text.specs.Names.{readName}
 use Rattle.text.specs.Held.{readWord}
+use Rattle.text.specs.Texts.{Texts, readFirst, behind}
 
 text-cut : (p q m : List ℕ) → readText (p ++ q) m ≡ readAfter p (readText q) m
 unfolding readText
@@ -20,23 +20,22 @@ text-cut (c ∷ p) q (x ∷ m) = go (eqb c x) (text-cut p q (after c m))
     go false h = refl
 
 -- a text is read in two parts
-pub word-cut : (p q : List ℕ) (v : ℕ) (m : List ℕ) → readWord (p ++ q) v m ≡ readAfter p (readWord q v) m
+word-cut : (p q : List ℕ) (v : ℕ) (m : List ℕ) → readWord (p ++ q) v m ≡ readAfter p (readWord q v) m
 word-cut p q v m = rw (text-cut p q m) (go (readText p m))
   where
     go : (g : Got (Unit {0})) → andThen (andThen g (λ _ k. readText q k)) (λ _ r. got v r) ≡ andThen g (λ _ k. readWord q v k)
     go misfit = refl
     go (got a k) = refl
 
--- names that all begin by p
-pub shared : (p : List ℕ) (name : ℕ → List ℕ) (ns m : List ℕ) → readName (λ n. p ++ name n) ns m ≡ readAfter p (readName name ns) m
-unfolding readName
-shared p name [] m = none (readText p m)
+-- what texts share is read once
+pub first-cut : (p : List ℕ) (ts : Texts) (m : List ℕ) → readFirst (behind p ts) m ≡ readAfter p (readFirst ts) m
+first-cut p [] m = go (readText p m)
   where
-    none : (g : Got (Unit {0})) → misfit ≡ andThen {B = ℕ} g (λ _ k. misfit)
-    none misfit = refl
-    none (got a k) = refl
-shared p name (n ∷ ns) m = rw (shared p name ns m, word-cut p (name n) n m) (go (readText p m))
+    go : (g : Got (Unit {0})) → misfit ≡ andThen {B = ℕ} g (λ _ k. misfit)
+    go misfit = refl
+    go (got a k) = refl
+first-cut p (t ∷ ts) m = rw (first-cut p ts m, word-cut p (t .0) (t .1) m) (go (readText p m))
   where
-    go : (g : Got (Unit {0})) → orElse (andThen g (λ _ k. readWord (name n) n k)) (andThen g (λ _ k. readName name ns k)) ≡ andThen g (λ _ k. orElse (readWord (name n) n k) (readName name ns k))
+    go : (g : Got (Unit {0})) → orElse (andThen g (λ _ k. readWord (t .0) (t .1) k)) (andThen g (λ _ k. readFirst ts k)) ≡ andThen g (λ _ k. readFirst (t ∷ ts) k)
     go misfit = refl
     go (got a k) = refl
