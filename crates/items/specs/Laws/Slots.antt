@@ -2,35 +2,26 @@
 use Prim.Native.Nat.{ℕ, zero, suc, _-_}
 use mathlib.Core.Path.{_≡_, refl, sym, _∙_, ap}
 use mathlib.Core.List.{List, [], _∷_, _++_, map}
-use mathlib.Core.Bool.{Bool, true, false}
+use mathlib.Core.Bool.{Bool, true}
 use lib.ListN.{length, replicate, length-map}
 use borrow.Author.Tests.{eqb-true, eq-eqb, leb-true, le-leb}
 use native.Mathlib.Omega.{arith}
-use Rattle.text.specs.Choice.{pick, all, headIs}
-use Rattle.text.specs.Names.{isLetter, isName, run, past}
+use Rattle.text.specs.Choice.{all, headIs}
+use Rattle.text.specs.Names.{isLetter, isName, run}
 use Rattle.text.specs.Arrays.{pad, isZero, slots, flat}
 use Rattle.text.specs.Laws.Base.{and-1, and-2, and-i}
 use Rattle.text.specs.Laws.Many.{Every}
 use Rattle.text.specs.Laws.Sizes.{run-size}
-use Rattle.text.specs.Laws.Runs.{run-in}
+use Rattle.text.specs.Laws.Runs.{run-past, run-in}
 use Rattle.text.specs.Laws.Arrays.{pad-split, pad-length, slots-flat, wide}
 use Rattle.items.specs.Item.{nameAtFront, behindName, isTaxiway, validSlot}
 
 pub zero-of : (x : ℕ) → isZero x ≡ true → x ≡ 0
 zero-of x h = eqb-true x 0 h
 
-name-and-rest : (f : List ℕ) → nameAtFront f ++ behindName f ≡ f
-unfolding run past
-name-and-rest [] = refl
-name-and-rest (x ∷ f) = go (isName x) (name-and-rest f)
-  where
-    go : (t : Bool) → run isName f ++ past isName f ≡ f → pick t (x ∷ run isName f) [] ++ pick t (past isName f) (x ∷ f) ≡ x ∷ f
-    go true h = ap (λ k. x ∷ k) h
-    go false h = refl
-
 -- an array that holds a name and zeros is its name, in that array
 pub name-back : (n : ℕ) (f : List ℕ) → length f ≡ n → all isZero (behindName f) ≡ true → pad n 0 (nameAtFront f) ≡ f
-name-back n f l h = pad-split 0 isZero zero-of n (nameAtFront f) (behindName f) f (name-and-rest f) l h
+name-back n f l h = pad-split 0 isZero zero-of n (nameAtFront f) (behindName f) f (run-past isName f) l h
 
 zeros-no-name : (n : ℕ) → nameAtFront (replicate n 0) ≡ []
 unfolding run
