@@ -2,8 +2,6 @@
 use Prim.Native.Nat.{ℕ}
 use mathlib.Core.List.{List, [], _∷_, _++_}
 use Rattle.text.specs.Piece.{bytes}
--- the promises name readFirst by this file
-pub use Rattle.text.specs.Texts.{readFirst}
 use Rattle.text.specs.Texts.{Texts, behind}
 use Rattle.surface.specs.Descriptions.{drySnow, drySnowOnCompactedSnow, drySnowOnIce, wet, wetIce, wetSnow, wetSnowOnCompactedSnow, wetSnowOnIce, dry}
 
