@@ -9,7 +9,7 @@ use lib.Seq.{take-all}
 use borrow.Author.Tests.{ne-eqb, le-leb, lt-leb}
 use native.Mathlib.Omega.{arith}
 use Rattle.text.specs.Choice.{pick, _and_, all}
-use Rattle.text.specs.Piece.{end}
+use Rattle.text.specs.Piece.{canonical, end}
 use Rattle.text.specs.Read.{Got, misfit, got, guard, andThen, whole}
 use Rattle.text.specs.Names.{isLetter, readCount}
 use Rattle.text.specs.Held.{fits}
@@ -20,7 +20,6 @@ use Rattle.row.specs.declared.Row.{Row}
 use Rattle.row.specs.declared.RowRead.{RowRead}
 use Rattle.row.specs.Row.{validRow, rowPieces}
 use Rattle.row.specs.Reading.{wholeRow, refusedRow, answer as rowAnswer}
-use Rattle.row.specs.Writing.{rowText}
 use Rattle.heading.specs.Letters.{isLetters}
 use Rattle.heading.specs.Heading.{aerodromeSize, readAerodrome}
 use Rattle.heading.specs.Answers.{aerodromeAnswer}
@@ -143,8 +142,8 @@ module _ (b : Board) (line : List ℕ) where
         go (got r k) z = refl
 
 -- the line of a row shown
-pub shown-line : (r : Row) → validRow r ≡ true → shownText r ≡ rowText r ++ (10 ∷ [])
-unfolding shownText rowText
+pub shown-line : (r : Row) → validRow r ≡ true → shownText r ≡ canonical (rowPieces r) ++ (10 ∷ [])
+unfolding shownText
 shown-line r v = rw v (canonical-append (rowPieces r) (end ∷ []))
 
 pub no-line : (r : Row) → validRow r ≡ false → shownText r ≡ []

@@ -27,7 +27,7 @@ use notice::write;
 use row::Row;
 use row::blank_row;
 use row::is_blank_row;
-use row::put_row;
+use row::put_any_row;
 use row::read_row;
 use row::valid_row;
 use runway::RunwayFound;
@@ -479,7 +479,7 @@ fn put_line(rest: &mut [u8], r: Row) -> usize
     ensures { λ n. ⌜ Put 0 (shownText r) (now (rest .entry)) (now (rest .exit)) n ⌝ }
 {
     if valid_row(r) {
-        let at = put_row(rest, r);
+        let at = put_any_row(rest, r);
         return put(rest, at, b"\n");
     }
     put(rest, 0, b"")

@@ -1,16 +1,19 @@
 -- One law for each case of a step of the loops over the rows.
 use Prim.Native.Nat.{ℕ, suc, _+_, _-_, _<_, _≤_}
-use mathlib.Core.Path.{_≡_, refl, sym, _∙_, ap}
-use mathlib.Core.List.{List, [], _∷_, _++_, append-assoc, append-nil}
+use mathlib.Core.Path.{_≡_, sym, _∙_, ap}
+use mathlib.Core.List.{List, [], _∷_, _++_, map, map-append, append-nil}
 use mathlib.Core.Bool.{Bool, true, false, not}
 use lib.ListN.{length, take, drop, getD, length-take, drop-of-length-le}
 use lib.Seq.{drop-cons, getD-take, take-suc, take-all}
 use native.Mathlib.Numerals.{add-one}
 use native.Mathlib.Omega.{arith}
 use Rattle.text.specs.Choice.{_and_, all}
+use Rattle.text.specs.Piece.{canonical}
+use Rattle.text.specs.Lines.{under}
+use Rattle.text.specs.Laws.Ended.{under-append}
 use Rattle.row.specs.declared.Row.{Row}
-use Rattle.row.specs.Writing.{rowText}
-use Rattle.body.specs.Rows.{sameRunway, isAmong, newRunways, latestOf, latestFrom, latest, rowsText}
+use Rattle.row.specs.Row.{rowPieces}
+use Rattle.body.specs.Rows.{sameRunway, isAmong, newRunways, latestOf, latestFrom, latest}
 
 -- both tests, the first of them decided
 pub and-yes : (a b : Bool) → a ≡ true → (a and b) ≡ b
@@ -104,24 +107,18 @@ pub latest-none : (t : ℕ) {l : List Row} → l ≡ [] → latestFrom t l ≡ t
 unfolding latestFrom
 latest-none t e = ap (latestFrom t) e
 
--- the rows' texts, one more at a time
-texts-join : (a b : List Row) → rowsText (a ++ b) ≡ rowsText a ++ rowsText b
-unfolding rowsText
-texts-join [] b = refl
-texts-join (r ∷ a) b = ap (λ (l : List ℕ). 10 ∷ l) (ap (λ (l : List ℕ). rowText r ++ l) (texts-join a b) ∙ sym (append-assoc (rowText r) (rowsText a) (rowsText b)))
-
+-- the rows' lines, one more at a time
 module _ (rows : List Row) (n i : ℕ) where
-  pub text-next : i < n → i < length rows → rowsText (take (i + 1) (take n rows)) ≡ rowsText (take i (take n rows)) ++ ((10 ∷ []) ++ rowText (getD rows i outside))
-  unfolding rowsText
+  pub text-next : i < n → i < length rows → under (map rowPieces (take (i + 1) (take n rows))) ≡ under (map rowPieces (take i (take n rows))) ++ ((10 ∷ []) ++ canonical (rowPieces (getD rows i outside)))
+  unfolding under
   text-next h k =
       let f : i < length (take n rows) = rw length-take (omega arith) in
-      let e : take (i + 1) (take n rows) ≡ take i (take n rows) ++ (getD (take n rows) i outside ∷ []) = rw add-one (take-suc (take n rows) i outside f) in
-      ap rowsText e ∙ texts-join (take i (take n rows)) (getD (take n rows) i outside ∷ [])
-      ∙ ap (λ (r : Row). rowsText (take i (take n rows)) ++ (10 ∷ (rowText r ++ []))) (getD-take n rows i outside h)
-      ∙ ap (λ (l : List ℕ). rowsText (take i (take n rows)) ++ (10 ∷ l)) (append-nil (rowText (getD rows i outside)))
+      let r = getD rows i outside in
+      let e : take (i + 1) (take n rows) ≡ take i (take n rows) ++ (r ∷ []) = rw (add-one, ← (getD-take n rows i outside h)) (take-suc (take n rows) i outside f) in
+      rw (e, map-append, under-append, append-nil)
 
-  pub text-used : n ≤ i → rowsText (take i (take n rows)) ≡ rowsText (take n rows)
-  text-used h = let k : length (take n rows) ≤ i = rw length-take (omega arith) in ap rowsText (take-all i (take n rows) k)
+  pub text-used : n ≤ i → under (map rowPieces (take i (take n rows))) ≡ under (map rowPieces (take n rows))
+  text-used h = let k : length (take n rows) ≤ i = rw length-take (omega arith) in rw (take-all i (take n rows) k)
 
-  pub text-left : length rows ≤ i → rowsText (take i (take n rows)) ≡ rowsText (take n rows)
-  text-left h = let k : length (take n rows) ≤ i = rw length-take (omega arith) in ap rowsText (take-all i (take n rows) k)
+  pub text-left : length rows ≤ i → under (map rowPieces (take i (take n rows))) ≡ under (map rowPieces (take n rows))
+  text-left h = let k : length (take n rows) ≤ i = rw length-take (omega arith) in rw (take-all i (take n rows) k)

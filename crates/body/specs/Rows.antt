@@ -11,7 +11,6 @@ use Rattle.runway.specs.Time.{later}
 use Rattle.row.specs.declared.Row.{Row}
 use Rattle.row.specs.Row.{validRow, blankRow, isBlankRow}
 use Rattle.row.specs.Reading.{wholeRow}
-use Rattle.row.specs.Writing.{rowText}
 use Rattle.body.specs.declared.Rows.{Rows}
 use Rattle.text.specs.Out.{Out, refuse, taken, fit, atEnd}
 
@@ -87,8 +86,3 @@ readRows (suc n) seen ((x ∷ l) ∷ ls) = fit 5 (wholeRow (opened (x ∷ l))) (
     pick (isAmong r seen) (refuse 7)
     (pick (closed (x ∷ l)) (atEnd ls (block (seen ++ (r ∷ [])) finished))
     (readRows n (seen ++ (r ∷ [])) ls)))
-
--- the rows' texts, each under the line before it
-unfoldable pub rowsText : List Row → List ℕ
-rowsText [] = []
-rowsText (r ∷ rs) = 10 ∷ (rowText r ++ rowsText rs)

@@ -2,20 +2,21 @@
 // Lines are read at their place in the message; each writer of a line gets the rest of the buffer.
 
 ghost use mathlib.Core.Path.{_≡_};
-ghost use mathlib.Core.List.{[]};
+ghost use mathlib.Core.List.{[], map};
 ghost use lib.Dec.{eqb, ltb};
 ghost use lib.ListN.{take, drop};
 ghost use Rattle.text.specs.Choice.{pick, all};
+ghost use Rattle.text.specs.Piece.{canonical};
+ghost use Rattle.text.specs.Lines.{under};
 ghost use Rattle.text.specs.Put.{Put};
-ghost use Rattle.row.specs.Row.{validRow, isBlankRow};
-ghost use Rattle.row.specs.Writing.{rowText};
-ghost use Rattle.body.specs.Rows.{sameRunway, isAmong, newRunways, latestOf, latest, rowsOf, makeRows, validRows, rowsText};
+ghost use Rattle.row.specs.Row.{validRow, isBlankRow, rowPieces};
+ghost use Rattle.body.specs.Rows.{sameRunway, isAmong, newRunways, latestOf, latest, rowsOf, makeRows, validRows};
 ghost use Rattle.body.specs.Held.{rowLine, noRows, rowsAnswer, RowsHeld};
 use items::Item;
 use row::Row;
 use row::blank_row;
 use row::is_blank_row;
-use row::put_row;
+use row::put_any_row;
 use row::read_row;
 use row::valid_row;
 use runway::is_later;
@@ -308,16 +309,16 @@ pub fn read_rows(m: &[u8]) -> RowsRead
 
 // The row's text in the rest of the buffer from `at` on.
 fn row_at(out: &mut [u8], at: usize, row: Row) -> usize
-    ensures { λ r. ⌜ Put at (rowText row) (now (out .entry)) (now (out .exit)) r ⌝ }
+    ensures { λ r. ⌜ Put at (canonical (rowPieces row)) (now (out .entry)) (now (out .exit)) r ⌝ }
 {
     let start = place(out, at);
-    let n = put_row(&mut out[start..], row);
+    let n = put_any_row(&mut out[start..], row);
     told_behind(out, at, n)
 }
 
-// Puts the rows, each under the line before it; a row that is not valid has no text.
+// Puts the rows, each under the line before it, and judges none: a record that is written was read or judged before.
 pub fn put_rows(out: &mut [u8], at: usize, r: Rows) -> usize
-    ensures { λ n. ⌜ Put at (rowsText (rowsOf r)) (now (out .entry)) (now (out .exit)) n ⌝ }
+    ensures { λ n. ⌜ Put at (under (map rowPieces (rowsOf r))) (now (out .entry)) (now (out .exit)) n ⌝ }
 {
     let rows = r.rows;
     let mut behind = told_behind(out, at, 0);

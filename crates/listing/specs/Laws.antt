@@ -16,9 +16,6 @@ use Rattle.notice.specs.declared.Reading.{Reading}
 use Rattle.notice.specs.Record.{validRecord}
 use Rattle.notice.specs.Notice.{noticeText}
 use Rattle.notice.specs.Reading.{reading}
-use Rattle.notice.specs.Writing.{partsText}
-use Rattle.notice.specs.Theorems.{read-valid}
-use Rattle.notice.specs.Laws.Text.{parts-text}
 use Rattle.listing.specs.Listing.{counted, acceptedLine, refusedLine, listed, listing}
 
 -- accepted, or refused
@@ -33,11 +30,9 @@ module _ (a : Reading) where
 
 module _ (m : List ℕ) (a : Reading) (e : a ≡ reading m) where
   -- what is put for either is the listing
-  pub put-record : {b x : List ℕ} {n : ℕ} → a .refusal ≡ 0 → Put 0 (acceptedLine (a .«record») ++ partsText (a .«record»)) b x n → Put 0 (listing m) b x n
+  pub put-record : {b x : List ℕ} {n : ℕ} → a .refusal ≡ 0 → Put 0 (acceptedLine (a .«record») ++ noticeText (a .«record»)) b x n → Put 0 (listing m) b x n
   unfolding listing
-  put-record {b} {x} {n} z p =
-      let q = ap (λ (t : List ℕ). acceptedLine (a .«record») ++ t) (parts-text (a .«record») (read-valid m a e z)) in
-      subst (λ (t : List ℕ). Put 0 t b x n) (q ∙ (sym (listed-accepted a z) ∙ ap listed e)) p
+  put-record {b} {x} {n} z p = subst (λ (t : List ℕ). Put 0 t b x n) (sym (listed-accepted a z) ∙ ap listed e) p
 
   pub put-refusal : {b x : List ℕ} {n : ℕ} → (a .refusal ≡ 0 → ⊥) → Put 0 (refusedLine (a .refusal)) b x n → Put 0 (listing m) b x n
   unfolding listing

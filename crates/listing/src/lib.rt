@@ -2,7 +2,7 @@
 ghost use mathlib.Core.Path.{_≡_};
 ghost use Rattle.text.specs.Put.{Put};
 ghost use Rattle.body.specs.Rows.{rowsOf};
-ghost use Rattle.notice.specs.Writing.{partsText};
+ghost use Rattle.notice.specs.Notice.{noticeText};
 ghost use Rattle.listing.specs.Listing.{disagreeingThirds, counted, acceptedLine, refusedLine, listing};
 use body::Rows;
 use notice::Record;
@@ -68,7 +68,7 @@ fn put_refused(out: &mut [u8], refusal: u8) -> usize
 
 // The record's text in the rest of the buffer from `at` on.
 fn notice_at(out: &mut [u8], at: usize, r: Record) -> usize
-    ensures { λ n. ⌜ Put at (partsText r) (now (out .entry)) (now (out .exit)) n ⌝ }
+    ensures { λ n. ⌜ Put at (noticeText r) (now (out .entry)) (now (out .exit)) n ⌝ }
 {
     let start = place(out, at);
     let n = put_notice(&mut out[start..], r);

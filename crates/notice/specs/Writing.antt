@@ -1,14 +1,10 @@
 -- Writing a record: "13, 14: record invalid; buffer shorter than the text", and when two messages tell the same.
 use Prim.Native.Nat.{ℕ}
 use mathlib.Core.Path.{_≡_}
-use mathlib.Core.List.{List, [], _∷_, _++_}
+use mathlib.Core.List.{List, _++_}
 use lib.Dec.{leb}
 use lib.ListN.{length, drop}
 use Rattle.text.specs.Choice.{pick}
-use Rattle.text.specs.Lines.{under}
-use Rattle.front.specs.Front.{frontText}
-use Rattle.body.specs.Rows.{rowsOf, latest, rowsText}
-use Rattle.body.specs.Remarks.{itemsOf, languageOf, remarkLines}
 use Rattle.notice.specs.declared.Record.{Record}
 use Rattle.notice.specs.declared.Written.{Written}
 use Rattle.notice.specs.Record.{validRecord}
@@ -36,9 +32,3 @@ written r buffer =
 pub record Wrote (r : Record) (before after : List ℕ) (w : Written) : Type 0 where
   pub answer : w ≡ writing r (length before)
   pub holds : after ≡ written r before
-
--- the text part by part: lines 1 to 5, the rows, what stands below them, and the end
-unfoldable pub partsText : Record → List ℕ
-partsText r =
-    frontText (r .addresses) (r .filing) (r .title) (latest (rowsOf (r .rows)))
-    ++ (rowsText (rowsOf (r .rows)) ++ (under (remarkLines (itemsOf (r .items)) (languageOf (r .language))) ++ (41 ∷ 10 ∷ [])))

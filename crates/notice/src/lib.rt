@@ -12,7 +12,7 @@ ghost use Rattle.sameness.specs.Same.{sameRows, sameItems, sameLanguage};
 ghost use Rattle.notice.specs.Same.{SaysSame, sameRecord};
 ghost use Rattle.notice.specs.Record.{blankRecord, validRecord};
 ghost use Rattle.notice.specs.Notice.{noticeText};
-ghost use Rattle.notice.specs.Writing.{partsText, Wrote};
+ghost use Rattle.notice.specs.Writing.{Wrote};
 ghost use Rattle.notice.specs.Rewriting.{Rewrote};
 ghost use Rattle.notice.specs.Reading.{accepted, refused, reading};
 ghost use Rattle.notice.specs.Below.{agreement, lastRefusal, recordOf};
@@ -222,9 +222,9 @@ fn valid_body(r: Record) -> bool
     false
 }
 
-// The text of a record part by part, as far as the buffer goes; that of a valid record is its canonical text.
+// Puts the text of any record part by part, as far as the buffer goes, and judges nothing.
 pub fn put_notice(out: &mut [u8], r: Record) -> usize
-    ensures { λ n. ⌜ Put 0 (partsText r) (now (out .entry)) (now (out .exit)) n ⌝ }
+    ensures { λ n. ⌜ Put 0 (noticeText r) (now (out .entry)) (now (out .exit)) n ⌝ }
 {
     let addresses = r.addresses;
     let filing = r.filing;

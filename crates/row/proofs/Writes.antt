@@ -1,11 +1,12 @@
 -- The texts of a row's groups, put one behind the other.
 use Prim.Native.Nat.{ℕ}
 use mathlib.Core.Path.{_≡_, _∙_, ap}
-use mathlib.Core.List.{List, _∷_, _++_}
+use mathlib.Core.List.{List, [], _∷_, _++_}
 use mathlib.Core.Bool.{true, false}
 use lib.Dec.{leb}
 use lib.ListN.{length}
-use borrow.Author.Tests.{leb-true}
+use native.Mathlib.Omega.{arith}
+use borrow.Author.Tests.{le-leb, leb-true}
 use Rattle.text.specs.Piece.{Piece, gap, canonical, bytes}
 use Rattle.text.specs.Numbers.{digits}
 use Rattle.text.specs.Put.{Put}
@@ -38,3 +39,7 @@ module _ {t b : List ℕ} where
 
   pub wrote-off : leb (length t) (length b) ≡ false → Wrote t b b 0
   wrote-off e = record { filled = rw e; holds = rw e }
+
+-- where there is no text, none is put
+pub wrote-none : (b : List ℕ) → Wrote [] b b 0
+wrote-none b = let e = le-leb 0 (length b) (omega arith) in record { filled = rw e; holds = rw e }

@@ -5,7 +5,7 @@ use mathlib.Core.Path.{_≡_, refl}
 use mathlib.Core.List.{List, [], _∷_, _++_}
 use mathlib.Core.Bool.{true, false}
 use Rattle.text.specs.Choice.{_and_}
-use Rattle.text.specs.Piece.{bytes, spell, nrText}
+use Rattle.text.specs.Piece.{canonical, bytes, spell, nrText}
 use Rattle.text.specs.Read.{misfit, skip, readText}
 use Rattle.text.specs.Names.{readName}
 use Rattle.text.specs.Numbers.{digits, readDigits}
@@ -168,13 +168,15 @@ pub record Written : Type 0 where
   short-nr : rowText (row (each (bare 6 notReported)) 5) ≡ bytes "01120640 07 6/6/6 NR/NR/NR 05"
   not-short : rowText (row (bare 6 dry ∷ bare 6 dry ∷ bare 5 notReported ∷ []) 0) ≡ bytes "01120640 07 6/6/5 NR/NR/NR NR/NR/NR DRY/DRY/NR"
   deep : rowText (row (third 2 100 100 slush ∷ third 2 100 99 slush ∷ third 2 100 4 standingWater ∷ []) 0) ≡ bytes "01120640 07 2/2/2 100/100/100 100/99/04 SLUSH/SLUSH/STANDING WATER"
+  -- a row that is not valid has none, though its groups have bytes
   invalid : rowText (row (each (bare 7 dry)) 0) ≡ []
+  unjudged : canonical (rowPieces (row (each (bare 7 dry)) 0)) ≡ bytes "01120640 07 7/7/7 DRY/DRY/DRY"
   -- the two groups that freedom (d) writes are those of a row with neither coverage nor depth
   left-out : groupOf coverages (row (each (bare 6 dry)) 0) ++ groupOf depths (row (each (bare 6 dry)) 0) ≡ nrText
 
 pub written : Written
 unfolding _and_ spell digits isShortMonth daysOf realDay realClock realTime validRunway isContaminant isDeep isCoverage validCoverage leastDepth isReported validDepth validThird measurePieces thirdPieces threeThat validRow isBare isSix isDry isShort middlePieces widthPieces rowPieces rowText
-written = record { full = refl; short = refl; short-nr = refl; not-short = refl; deep = refl; invalid = refl; left-out = refl }
+written = record { full = refl; short = refl; short-nr = refl; not-short = refl; deep = refl; invalid = refl; unjudged = refl; left-out = refl }
 
 -- a text in a buffer that is longer than it, as long, and a byte shorter
 pub record Fitted : Type 0 where

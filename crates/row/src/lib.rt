@@ -564,41 +564,33 @@ fn put_width(out: &mut [u8], at: usize, width: u8) -> usize
     put_digits(out, at, 2, width as u32)
 }
 
-fn put_groups(out: &mut [u8], row: Row) -> usize
-    ensures { λ r. ⌜ Put 0 (canonical (rowPieces row)) (now (out .entry)) (now (out .exit)) r ⌝ }
+// Puts the text of any row into the rest of a buffer, as far as that goes, and answers its length. It judges nothing: it is for rows that were
+// read or judged before.
+pub fn put_any_row(rest: &mut [u8], row: Row) -> usize
+    ensures { λ r. ⌜ Put 0 (canonical (rowPieces row)) (now (rest .entry)) (now (rest .exit)) r ⌝ }
 {
-    let at = put_digits(out, 0, 8, row.time);
-    let at = put(out, at, b" ");
-    let at = put_runway(out, at, row.number, row.side);
-    let at = put_thirds(CODES, out, at, row);
-    let at = put_middle(out, at, row);
-    let at = put_thirds(DESCRIPTIONS, out, at, row);
-    put_width(out, at, row.width)
-}
-
-// Puts the row's text into the rest of a buffer, as far as that goes, and answers its length; 0 for a row that is not valid.
-pub fn put_row(rest: &mut [u8], row: Row) -> usize
-    ensures { λ r. ⌜ Put 0 (rowText row) (now (rest .entry)) (now (rest .exit)) r ⌝ }
-{
-    if valid_row(row) {
-        return put_groups(rest, row);
-    }
-    put(rest, 0, b"")
+    let at = put_digits(rest, 0, 8, row.time);
+    let at = put(rest, at, b" ");
+    let at = put_runway(rest, at, row.number, row.side);
+    let at = put_thirds(CODES, rest, at, row);
+    let at = put_middle(rest, at, row);
+    let at = put_thirds(DESCRIPTIONS, rest, at, row);
+    put_width(rest, at, row.width)
 }
 
 const LONGEST_ROW: usize = 147;
 
 // How many bytes the row's text has.
 fn row_size(row: Row) -> usize
-    ensures { λ r. ⌜ r ≡ length (rowText row) ⌝ }
+    ensures { λ r. ⌜ r ≡ length (canonical (rowPieces row)) ⌝ }
 {
     let mut none = [0; 1];
-    put_row(&mut none, row)
+    put_any_row(&mut none, row)
 }
 
 // The row's text fits into so many bytes: the longest is known, and only a shorter rest is measured against the text.
 fn fits(room: usize, row: Row) -> bool
-    ensures { λ r. ⌜ r ≡ leb (length (rowText row)) room ⌝ }
+    ensures { λ r. ⌜ r ≡ leb (length (canonical (rowPieces row))) room ⌝ }
 {
     if LONGEST_ROW <= room {
         return true;
@@ -611,8 +603,11 @@ fn fits(room: usize, row: Row) -> bool
 pub fn write_row(rest: &mut [u8], row: Row) -> usize
     ensures { λ r. ⌜ Wrote (rowText row) (now (rest .entry)) (now (rest .exit)) r ⌝ }
 {
+    if !valid_row(row) {
+        return 0;
+    }
     if fits(rest.len(), row) {
-        return put_row(rest, row);
+        return put_any_row(rest, row);
     }
     0
 }

@@ -8,8 +8,8 @@ use Rattle.board.proofs.put_line.Tie as tie
 valid-row-requires : tie.Need-valid-row-requires
 valid-row-requires c κs = search needs
 
-put-row-requires : tie.Need-put-row-requires
-put-row-requires c κs = search needs
+put-any-row-requires : tie.Need-put-any-row-requires
+put-any-row-requires c κs = search needs
 
 slice-aggregate-put : tie.Need-slice-aggregate-put
 slice-aggregate-put c = search needs
@@ -21,7 +21,7 @@ same-length : tie.Need-same-length
 same-length c = search needs
 
 returns : tie.Need-returns
-returns c = rw (shown-line _ (sym (c .before .before .before .before .before .before .before .before .before .before .valid-row .ensures) ∙ c .before .before .before .before .before .before .before .before .before .if1 .taken)) (more (c .before .before .before .before .before .before .before .put-row .ensures) (c .before .before .put .ensures))
+returns c = rw (shown-line _ (sym (c .before .before .before .before .before .before .before .before .before .before .valid-row .ensures) ∙ c .before .before .before .before .before .before .before .before .before .if1 .taken)) (more (c .before .before .before .before .before .before .before .put-any-row .ensures) (c .before .before .put .ensures))
 
 slice-aggregate-put-2 : tie.Need-slice-aggregate-put-2
 slice-aggregate-put-2 c = search needs
@@ -40,7 +40,7 @@ put-line-spec =
     tie.close
     (tie.spec
     valid-row-requires
-    put-row-requires
+    put-any-row-requires
     slice-aggregate-put
     put-requires
     same-length

@@ -3,17 +3,20 @@ use native.Mathlib.Omega.{arith}
 use lib.ListN.{length-map}
 use Prim.Native.Nat.{_≤_, _-_}
 use mathlib.Core.Path.{_≡_, refl, sym, subst, _∙_}
+use mathlib.Core.List.{map}
 use lib.ListN.{length, take}
 use Rattle.text.specs.Put.{Put}
 use Rattle.text.specs.Laws.Put.{more}
-use Rattle.body.specs.Rows.{rowsOf, rowsText}
+use Rattle.text.specs.Lines.{under}
+use Rattle.row.specs.Row.{rowPieces}
+use Rattle.body.specs.Rows.{rowsOf}
 use Rattle.body.proofs.Loops.{text-next, text-used, text-left}
 use borrow.Author.Needs.{needs}
 use Rattle.body.proofs.put_rows.Statement.{statement}
 use Rattle.body.proofs.put_rows.Tie as tie
 
 abbrev Inv-loop : tie.InvT-loop
-Inv-loop out₀ at r rows behind₀ i₀ t9 out behind i = (i ≤ 8) × (length out ≡ length out₀) × Put at (rowsText (take i (rowsOf r))) out₀ out behind
+Inv-loop out₀ at r rows behind₀ i₀ t9 out behind i = (i ≤ 8) × (length out ≡ length out₀) × Put at (under (map rowPieces (take i (rowsOf r)))) out₀ out behind
 
 abbrev μ-loop : tie.MeasureT-loop
 μ-loop out₀ at r rows behind₀ i₀ t9 out behind i = 8 - i
@@ -22,7 +25,7 @@ told-behind-requires : tie.Need-told-behind-requires Inv-loop μ-loop
 told-behind-requires c κs = search needs
 
 loop-holds : tie.Need-loop-holds Inv-loop μ-loop
-unfolding rowsText
+unfolding under
 loop-holds c = let a = c .before .before .before .before .args in (search needs, refl, nothing-put (a .out .now) (c .told-behind .ensures))
 
 same-length : tie.Need-same-length Inv-loop μ-loop

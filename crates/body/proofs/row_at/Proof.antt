@@ -6,17 +6,17 @@ use Rattle.body.proofs.row_at.Tie as tie
 place-requires : tie.Need-place-requires
 place-requires c κs = search needs
 
-sub-put-row : tie.Need-sub-put-row
-sub-put-row c = search needs
+sub-put-any-row : tie.Need-sub-put-any-row
+sub-put-any-row c = search needs
 
-part-put-row-start : tie.Need-part-put-row-start
-part-put-row-start c = search needs
+part-put-any-row-start : tie.Need-part-put-any-row-start
+part-put-any-row-start c = search needs
 
-part-put-row-end : tie.Need-part-put-row-end
-part-put-row-end c = search needs
+part-put-any-row-end : tie.Need-part-put-any-row-end
+part-put-any-row-end c = search needs
 
-put-row-requires : tie.Need-put-row-requires
-put-row-requires c κs = search needs
+put-any-row-requires : tie.Need-put-any-row-requires
+put-any-row-requires c κs = search needs
 
 told-behind-requires : tie.Need-told-behind-requires
 told-behind-requires c κs = search needs
@@ -25,17 +25,17 @@ same-length : tie.Need-same-length
 same-length c = search needs
 
 returns : tie.Need-returns
-returns c = lent-rest (c .before .before .before .before .before .before .place .ensures) (c .before .before .before .before .put-row .ensures) (c .told-behind .ensures)
+returns c = lent-rest (c .before .before .before .before .before .before .place .ensures) (c .before .before .before .before .put-any-row .ensures) (c .told-behind .ensures)
 
 pub row-at-spec : {M : Type 1} → statement M
 row-at-spec =
     tie.close
     (tie.spec
     place-requires
-    sub-put-row
-    part-put-row-start
-    part-put-row-end
-    put-row-requires
+    sub-put-any-row
+    part-put-any-row-start
+    part-put-any-row-end
+    put-any-row-requires
     told-behind-requires
     same-length
     returns)

@@ -1,4 +1,4 @@
-use Rattle.notice.specs.Writing.{partsText}
+use Rattle.notice.specs.Laws.Text.{notice-parts}
 use Rattle.text.specs.Laws.Put.{more}
 use borrow.Author.Needs.{needs}
 use Rattle.notice.proofs.put_notice.Statement.{statement}
@@ -26,8 +26,7 @@ same-length : tie.Need-same-length
 same-length c = search needs
 
 returns : tie.Need-returns
-unfolding partsText
-returns c = let c₁ = c .before .before in let c₂ = c₁ .before .before .before .before .before in let c₃ = c₂ .before .before .before .before in let c₄ = c₃ .before .before .before .before in rw (← (c₄ .before .latest-time .ensures)) (more (c₄ .put-front .ensures) (more (c₃ .put-rows .ensures) (more (c₂ .put-remarks .ensures) (c₁ .put .ensures))))
+returns c = let c₁ = c .before .before in let c₂ = c₁ .before .before .before .before .before in let c₃ = c₂ .before .before .before .before in let c₄ = c₃ .before .before .before .before in rw (notice-parts _, ← (c₄ .before .latest-time .ensures)) (more (c₄ .put-front .ensures) (more (c₃ .put-rows .ensures) (more (c₂ .put-remarks .ensures) (c₁ .put .ensures))))
 
 pub put-notice-spec : {M : Type 1} → statement M
 put-notice-spec =

@@ -1,11 +1,6 @@
-use Rattle.notice.specs.Laws.Text.{parts-text}
 use Rattle.notice.specs.Laws.Size.{text-fits}
 use Rattle.text.specs.Laws.Put.{measured}
-use lib.ListN.{length}
 use native.Mathlib.Omega.{arith}
-use mathlib.Core.List.{List}
-use mathlib.Core.Path.{_∙_, ap}
-use Prim.Native.Nat.{ℕ}
 use borrow.Author.Needs.{needs}
 use Rattle.notice.proofs.text_size.Statement.{statement}
 use Rattle.notice.proofs.text_size.Tie as tie
@@ -17,7 +12,7 @@ put-notice-requires : tie.Need-put-notice-requires
 put-notice-requires c κs = search needs
 
 returns : tie.Need-returns
-returns c = let s = c .before .before .before in let e = ap (λ (t : List ℕ). length t) (parts-text (s .args .r) (s .pre)) in measured (c .before .put-notice .ensures) (omega (arith, text-fits (s .args .r) (s .pre))) ∙ e
+returns c = let s = c .before .before .before in measured (c .before .put-notice .ensures) (omega (arith, text-fits (s .args .r) (s .pre)))
 
 pub text-size-spec : {M : Type 1} → statement M
 text-size-spec = tie.close (tie.spec slice-aggregate-put-notice put-notice-requires returns)

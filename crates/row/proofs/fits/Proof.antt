@@ -3,15 +3,18 @@ use mathlib.Core.Path.{sym, ap}
 use native.Mathlib.Omega.{arith}
 use lib.Dec.{leb}
 use lib.ListN.{length}
-use Rattle.row.specs.Writing.{rowText}
+use Rattle.text.specs.Piece.{canonical}
+use Rattle.text.specs.Laws.Sizes.{size}
+use Rattle.row.specs.Row.{rowPieces}
 use borrow.Author.Tests.{le-leb}
-use Rattle.row.specs.Laws.Sizes.{text-size}
+use Rattle.row.specs.Laws.Sizes.{row-size}
 use borrow.Author.Needs.{needs}
 use Rattle.row.proofs.fits.Statement.{statement}
 use Rattle.row.proofs.fits.Tie as tie
 
 returns : tie.Need-returns
-returns c = let a = c .before .args in sym (le-leb (length (rowText (a .row))) (a .room) (omega (arith, text-size (a .row), c .if1 .taken)))
+unfolding size
+returns c = let a = c .before .args in sym (le-leb (length (canonical (rowPieces (a .row)))) (a .room) (omega (arith, row-size (a .row), c .if1 .taken)))
 
 row-size-requires : tie.Need-row-size-requires
 row-size-requires c κs = search needs

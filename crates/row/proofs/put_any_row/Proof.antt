@@ -1,8 +1,8 @@
 use Rattle.text.specs.Laws.Put.{more}
 use Rattle.row.proofs.Writes.{row-bytes}
 use borrow.Author.Needs.{needs}
-use Rattle.row.proofs.put_groups.Statement.{statement}
-use Rattle.row.proofs.put_groups.Tie as tie
+use Rattle.row.proofs.put_any_row.Statement.{statement}
+use Rattle.row.proofs.put_any_row.Tie as tie
 
 put-digits-requires : tie.Need-put-digits-requires
 put-digits-requires c κs = search needs
@@ -43,8 +43,8 @@ returns c =
     let c₈ = c₇ .before .before .before in
     rw (row-bytes (c₈ .args .row)) (more (c₇ .put-digits .ensures) (more (c₆ .put .ensures) (more (c₅ .put-runway .ensures) (more (c₄ .put-thirds .ensures) (more (c₃ .put-middle .ensures) (more (c₂ .put-thirds2 .ensures) (c₁ .put-width .ensures)))))))
 
-pub put-groups-spec : {M : Type 1} → statement M
-put-groups-spec =
+pub put-any-row-spec : {M : Type 1} → statement M
+put-any-row-spec =
     tie.close
     (tie.spec
     put-digits-requires
