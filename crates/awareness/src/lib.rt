@@ -29,6 +29,7 @@ use text::LETTERS;
 use text::NO_SPAN;
 use text::NONE;
 use text::Span;
+use text::counted;
 use text::digits;
 use text::place;
 use text::put;
@@ -334,10 +335,10 @@ fn is_taxiway(name: &[u8]) -> bool
     requires { ⌜ all isName (now name) ≡ true ⌝ }
     ensures { λ r. ⌜ r ≡ isTaxiway (now (name .entry)) ⌝ }
 {
-    if run(name, 0, LETTERS) == 0 {
-        return false;
+    if counted(name, 0, LETTERS, 1) {
+        return name.len() <= TAXIWAY_SIZE;
     }
-    name.len() <= TAXIWAY_SIZE
+    false
 }
 
 // The taxiway behind a gap.

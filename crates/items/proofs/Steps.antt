@@ -7,10 +7,7 @@ use native.Mathlib.Numerals.{add-one}
 use native.Mathlib.Omega.{arith}
 use lib.ListN.{length, drop, getD, take, drop-of-length-le, length-drop, length-take, take-append-drop}
 use lib.Seq.{drop-cons, getD-take, drop-drop, drop-length, take-all, take-take, take-suc}
-use Rattle.text.specs.Choice.{_and_, all, headIs, sameBytes}
-use Rattle.text.specs.Read.{got}
-use Rattle.text.specs.Names.{readCount}
-use Rattle.text.specs.Held.{fits}
+use Rattle.text.specs.Choice.{_and_, all, sameBytes}
 use Rattle.text.specs.Arrays.{slots, isZero}
 use Rattle.text.specs.Laws.Held.{part-all}
 use Rattle.items.specs.Item.{validSlot, isNew, slotsFit, validItem}
@@ -18,16 +15,6 @@ use Rattle.items.specs.Awareness.{inOrder, standsBehind, soundItems}
 use Rattle.items.specs.Laws.Order.{sound-on, sound-invalid, sound-misplaced}
 use Rattle.items.specs.Held.{SlotEnd}
 use Rattle.items.specs.declared.Item.{Item}
-
--- one byte of a class
-pub one-counted : (p : ℕ → Bool) (m : List ℕ) → fits (readCount p 1 m) ≡ headIs p m
-unfolding readCount
-one-counted p [] = refl
-one-counted p (x ∷ m) = go (p x)
-  where
-    go : (t : Bool) → fits (Rattle.text.specs.Read.andThen {A = ℕ × List ℕ} (Rattle.text.specs.Read.andThen (Rattle.text.specs.Read.guard t (got x m)) (λ a k. got (a, []) k)) (λ q r. got (q .0 ∷ q .1) r)) ≡ t
-    go true = refl
-    go false = refl
 
 -- the slot at a place
 module _ (f : List ℕ) (at : ℕ) where

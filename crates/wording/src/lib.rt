@@ -14,6 +14,7 @@ ghost use Rattle.wording.specs.Slots.{FrontSlot, taxiwayNames};
 use items::Item;
 use runway::put_runway;
 use text::CAPITALS_AND_DIGITS;
+use text::counted;
 use text::put;
 use text::put_digits;
 use text::run;
@@ -130,13 +131,12 @@ fn put_poor_apron(out: &mut [u8], at: usize, i: Item) -> usize
     ensures { λ r. ⌜ Put at (canonical (poorApron i)) (now (out .entry)) (now (out .exit)) r ⌝ }
 {
     let name = i.name;
-    let n = run(&name, 0, CAPITALS_AND_DIGITS);
-    if n == 0 {
-        return put(out, at, b"ALL APRON POOR");
+    if counted(&name, 0, CAPITALS_AND_DIGITS, 1) {
+        let at = put(out, at, b"APRON ");
+        let at = put_name(out, at, &name);
+        return put(out, at, b" POOR");
     }
-    let at = put(out, at, b"APRON ");
-    let at = put_name(out, at, &name);
-    put(out, at, b" POOR")
+    put(out, at, b"ALL APRON POOR")
 }
 
 // An item without its full stop.

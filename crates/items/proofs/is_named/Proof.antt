@@ -1,6 +1,6 @@
 use mathlib.Core.Path.{_∙_}
 use Rattle.text.specs.Names.{isName, inClass}
-use Rattle.items.proofs.Steps.{one-counted}
+use Rattle.text.specs.Laws.Runs.{one-counted}
 use borrow.Author.Needs.{needs}
 use Rattle.items.proofs.is_named.Statement.{statement}
 use Rattle.items.proofs.is_named.Tie as tie

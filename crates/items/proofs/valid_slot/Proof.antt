@@ -6,7 +6,7 @@ use Rattle.text.specs.Names.{isLetter, inClass}
 use Rattle.text.specs.Arrays.{isZero}
 use Rattle.text.specs.Laws.Tests.{and-on, and-off}
 use Rattle.items.specs.Item.{validSlot}
-use Rattle.items.proofs.Steps.{one-counted}
+use Rattle.text.specs.Laws.Runs.{one-counted}
 use borrow.Author.Needs.{needs}
 use Rattle.items.proofs.valid_slot.Statement.{statement}
 use Rattle.items.proofs.valid_slot.Tie as tie

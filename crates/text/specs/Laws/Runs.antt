@@ -3,11 +3,11 @@ use Prim.Native.Nat.{ℕ}
 use mathlib.Core.Path.{_≡_, refl, sym, _∙_, ap}
 use mathlib.Core.List.{List, [], _∷_, _++_}
 use mathlib.Core.Bool.{Bool, true, false}
-use native.Mathlib.Omega.{arith}
 use lib.ListN.{length, take, drop}
 use Rattle.text.specs.Choice.{pick, all, headIs}
-use Rattle.text.specs.Held.{Reached}
-use Rattle.text.specs.Names.{run, past}
+use Rattle.text.specs.Read.{got, guard, andThen}
+use Rattle.text.specs.Held.{Reached, fits}
+use Rattle.text.specs.Names.{run, past, readCount}
 use Rattle.text.specs.Laws.Arrays.{take-front, drop-front}
 use Rattle.text.specs.Laws.Base.{and-i}
 use Rattle.text.specs.Laws.Held.{one-place}
@@ -34,23 +34,15 @@ module _ (p : ℕ → Bool) where
       go true e h = and-i e h
       go false e h = refl
 
-  none-there : (f : List ℕ) → length (run p f) ≡ 0 → headIs p f ≡ false
-  unfolding run
-  none-there [] e = refl
-  none-there (x ∷ f) e = go (p x) e
+  -- one byte of the class stands there
+  pub one-counted : (f : List ℕ) → fits (readCount p 1 f) ≡ headIs p f
+  unfolding readCount
+  one-counted [] = refl
+  one-counted (x ∷ f) = go (p x)
     where
-      go : (t : Bool) → length (pick t (x ∷ run p f) []) ≡ 0 → t ≡ false
-      go true e = absurd (omega arith)
-      go false e = refl
-
-  some-there : (f : List ℕ) → (length (run p f) ≡ 0 → ⊥) → headIs p f ≡ true
-  unfolding run
-  some-there [] e = absurd (e refl)
-  some-there (x ∷ f) e = go (p x) e
-    where
-      go : (t : Bool) → (length (pick t (x ∷ run p f) []) ≡ 0 → ⊥) → t ≡ true
-      go true e = refl
-      go false e = absurd (e refl)
+      go : (t : Bool) → fits (andThen {A = ℕ × List ℕ} (andThen (guard t (got x f)) (λ a k. got (a, []) k)) (λ q r. got (q .0 ∷ q .1) r)) ≡ t
+      go true = refl
+      go false = refl
 
   module _ (f : List ℕ) {n : ℕ} (h : Reached f (past p f) n) where
     run-end : n ≡ length (run p f)
@@ -59,10 +51,3 @@ module _ (p : ℕ → Bool) where
     -- the bytes before its end
     pub run-taken : take n f ≡ run p f
     run-taken = ap (λ k. take k f) run-end ∙ ap (take (length (run p f))) (sym (run-past f)) ∙ take-front (run p f) (past p f)
-
-    -- it is empty, or not
-    pub run-none : n ≡ 0 → headIs p f ≡ false
-    run-none z = none-there f (sym run-end ∙ z)
-
-    pub run-some : (n ≡ 0 → ⊥) → headIs p f ≡ true
-    run-some z = some-there f (λ e. z (run-end ∙ e))
