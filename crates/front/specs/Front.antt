@@ -18,8 +18,6 @@ use Rattle.heading.specs.Heading.{Heading, aerodromeSize, readHeading, readSeri
 use Rattle.heading.specs.Answers.{zeros, blankAddresses, blankFiling, blankTitle}
 use Rattle.text.specs.Out.{Out, refuse, taken, next, fit}
 use Rattle.front.specs.declared.Front.{Front}
-use Rattle.front.specs.declared.LineInto.{LineInto}
-use Rattle.front.specs.declared.FrontStep.{FrontStep}
 use Rattle.front.specs.declared.FrontRead.{FrontRead}
 
 -- nothing is read yet
@@ -76,16 +74,6 @@ nextLine k f (l ∷ ls) = fit (lineRefusal k) (fillLine k f l) (λ g. taken (g, 
 unfoldable pub fillLines : ℕ → ℕ → Front → List (List ℕ) → Out (Front × List (List ℕ))
 fillLines zero k f ls = taken (f, ls)
 fillLines (suc n) k f ls = next (nextLine k f ls) (λ p. fillLines n (suc k) (p .0) (p .1))
-
--- the answer r is the reading g of a line
-pub record Filled (g : Got Front) (r : LineInto) : Type 0 where
-  pub says : g ≡ pick (r .fits) (got (r .front) []) misfit
-
--- the answer r is the line k at the front of the message m, read into f
-pub record Stepped (k : ℕ) (f : Front) (m : List ℕ) (r : FrontStep) : Type 0 where
-  pub within : r .next ≤ length m
-  pub says : nextLine k f (lines m) ≡ pick (r .fits) (taken (r .front, lines (drop (r .next) m))) (refuse (lineRefusal k))
-  pub place : r .fits ≡ true → r .next ≡ lineStep m
 
 -- a refused reading is blank
 abbrev pub noFront : ℕ → FrontRead

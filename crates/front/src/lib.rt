@@ -2,13 +2,11 @@
 
 ghost use mathlib.Core.Path.{_≡_};
 ghost use mathlib.Core.List.{_∷_};
-ghost use Rattle.text.specs.Read.{readAs, whole};
 ghost use Rattle.text.specs.Piece.{canonical};
 ghost use Rattle.text.specs.Put.{Put};
-ghost use Rattle.heading.specs.Addresses.{readAddresses};
-ghost use Rattle.heading.specs.Filing.{readFiling, filingPieces};
-ghost use Rattle.heading.specs.Heading.{readHeading, readSerialLine, readAerodrome, headingPieces, serialPieces, aerodromePieces};
-ghost use Rattle.front.specs.Front.{blankFront, withAddresses, withFiling, withHeading, withSerial, withAerodrome, fillLine, lineRefusal, frontAnswer, frontText, Filled, Stepped, FrontHeld};
+ghost use Rattle.heading.specs.Filing.{filingPieces};
+ghost use Rattle.heading.specs.Heading.{headingPieces, serialPieces, aerodromePieces};
+ghost use Rattle.front.specs.Front.{blankFront, lineRefusal, frontAnswer, frontText, FrontHeld};
 use heading::Addresses;
 use heading::Filing;
 use heading::Title;
@@ -39,19 +37,6 @@ pub struct Front {
     // lines 4 and 5, which repeat two of its groups
     pub serial: u32,
     pub aerodrome: [u8; 4],
-}
-
-// The front with a line more, where the line fits.
-struct LineInto {
-    fits: bool,
-    front: Front,
-}
-
-// The same for the line at the front of a message, and where the next line starts.
-struct FrontStep {
-    fits: bool,
-    front: Front,
-    next: usize,
 }
 
 // The front of a message; what is below it starts at `next`. Blank where a line does not fit, with the refusal of the first such.
@@ -87,106 +72,6 @@ pub fn blank_front() -> Front
     }
 }
 
-fn addresses_into(front: Front, line: &[u8]) -> LineInto
-    ensures { λ r. ⌜ Filled (readAs (withAddresses front) (λ m. whole (readAddresses m)) (now (line .entry))) r ⌝ }
-{
-    let read = read_addresses(line);
-    let addresses = read.addresses;
-    let mut f = front;
-    f.addresses = addresses;
-    LineInto {
-        fits: read.fits,
-        front: f,
-    }
-}
-
-fn filing_into(front: Front, line: &[u8]) -> LineInto
-    ensures { λ r. ⌜ Filled (readAs (withFiling front) (λ m. whole (readFiling m)) (now (line .entry))) r ⌝ }
-{
-    let read = read_filing(line);
-    let filing = read.filing;
-    let mut f = front;
-    f.filing = filing;
-    LineInto {
-        fits: read.fits,
-        front: f,
-    }
-}
-
-fn heading_into(front: Front, line: &[u8]) -> LineInto
-    ensures { λ r. ⌜ Filled (readAs (withHeading front) (λ m. whole (readHeading m)) (now (line .entry))) r ⌝ }
-{
-    let read = read_heading(line);
-    let title = read.title;
-    let mut f = front;
-    f.title = title;
-    f.time = read.time;
-    LineInto {
-        fits: read.fits,
-        front: f,
-    }
-}
-
-fn serial_into(front: Front, line: &[u8]) -> LineInto
-    ensures { λ r. ⌜ Filled (readAs (withSerial front) (λ m. whole (readSerialLine m)) (now (line .entry))) r ⌝ }
-{
-    let read = read_serial(line);
-    let mut f = front;
-    f.serial = read.value;
-    LineInto {
-        fits: read.fits,
-        front: f,
-    }
-}
-
-fn aerodrome_into(front: Front, line: &[u8]) -> LineInto
-    ensures { λ r. ⌜ Filled (readAs (withAerodrome front) (λ m. whole (readAerodrome m)) (now (line .entry))) r ⌝ }
-{
-    let read = read_aerodrome(line);
-    let aerodrome = read.aerodrome;
-    let mut f = front;
-    f.aerodrome = aerodrome;
-    LineInto {
-        fits: read.fits,
-        front: f,
-    }
-}
-
-// The lines in their order.
-fn line_into(k: u8, front: Front, line: &[u8]) -> LineInto
-    ensures { λ r. ⌜ Filled (fillLine k front (now (line .entry))) r ⌝ }
-{
-    match k {
-        0 => addresses_into(front, line),
-        1 => filing_into(front, line),
-        2 => heading_into(front, line),
-        3 => serial_into(front, line),
-        _ => aerodrome_into(front, line),
-    }
-}
-
-// Line `k`, counted from 0, at the front of `m`.
-fn next_line(k: u8, front: Front, m: &[u8]) -> FrontStep
-    ensures { λ r. ⌜ Stepped k front (now (m .entry)) r ⌝ }
-{
-    if m.len() == 0 {
-        return FrontStep {
-            fits: false,
-            front,
-            next: 0,
-        };
-    }
-    let line = first_line(m);
-    let size = line.size;
-    let read = line_into(k, front, &m[..size]);
-    let f = read.front;
-    FrontStep {
-        fits: read.fits,
-        front: f,
-        next: line.next,
-    }
-}
-
 // The number of a line that is missing or does not fit.
 fn line_refusal(k: u8) -> u8
     ensures { λ r. ⌜ r ≡ lineRefusal k ⌝ }
@@ -215,7 +100,7 @@ fn front_answer(refusal: u8, front: Front, at: usize) -> FrontRead
     }
 }
 
-// Lines 1 to 5: the first that is missing or does not fit decides.
+// Lines 1 to 5, each at its place in the message and filled in place: the first that is missing or does not fit decides.
 pub fn read_front(m: &[u8]) -> FrontRead
     ensures { λ r. ⌜ FrontHeld (now (m .entry)) r ⌝ }
 {
@@ -226,12 +111,50 @@ pub fn read_front(m: &[u8]) -> FrontRead
         if LINES <= k {
             break 'lines 0;
         }
-        let step = next_line(k, front, &m[at..]);
-        if !step.fits {
+        if m.len() <= at {
             break 'lines line_refusal(k);
         }
-        front = step.front;
-        at += step.next;
+        let start = at;
+        let first = first_line(&m[start..]);
+        let end = start + first.size;
+        let line = &m[start..end];
+        at += first.next;
+        let mut fits = false;
+        match k {
+            0 => {
+                let read = read_addresses(line);
+                let addresses = read.addresses;
+                front.addresses = addresses;
+                fits = read.fits;
+            }
+            1 => {
+                let read = read_filing(line);
+                let filing = read.filing;
+                front.filing = filing;
+                fits = read.fits;
+            }
+            2 => {
+                let read = read_heading(line);
+                let title = read.title;
+                front.title = title;
+                front.time = read.time;
+                fits = read.fits;
+            }
+            3 => {
+                let read = read_serial(line);
+                front.serial = read.value;
+                fits = read.fits;
+            }
+            _ => {
+                let read = read_aerodrome(line);
+                let aerodrome = read.aerodrome;
+                front.aerodrome = aerodrome;
+                fits = read.fits;
+            }
+        }
+        if !fits {
+            break 'lines line_refusal(k);
+        }
         k += 1;
     };
     front_answer(refusal, front, at)
