@@ -113,9 +113,9 @@ module _ (l : List ℕ) where
 
 -- the two ways out of the loop
 module _ (l : List ℕ) (at g : ℕ) (r : Row) (n : ℕ) (inv : fillFrom (groupCount - g) g r (drop at l) ≡ fillFrom groupCount 0 blankRow l) where
-  pub way-off : g < groupCount → fillGroup g r (drop at l) ≡ misfit → n ≡ refusedRow → judgedRow n r ≡ answer (wholeRow l)
+  pub way-off : g < groupCount → fillGroup g r (drop at l) ≡ misfit → n ≡ refusedRow → (s : Row) → judgedRow n s ≡ answer (wholeRow l)
   unfolding judgedRow
-  way-off h m e = rw e (sym (line-off l (sym inv ∙ from-off g r (drop at l) h m)))
+  way-off h m e s = rw e (sym (line-off l (sym inv ∙ from-off g r (drop at l) h m)))
 
   pub way-end : groupCount ≤ g → n ≡ pick (leb (length l) at) 0 refusedRow → judgedRow n r ≡ answer (wholeRow l)
   way-end h e = go (leb (length l) at) refl e

@@ -8,10 +8,10 @@ ghost use lib.ListN.{length};
 ghost use Rattle.text.specs.Choice.{pick, all};
 ghost use Rattle.text.specs.Piece.{canonical};
 ghost use Rattle.text.specs.Read.{readAs, readGap};
-ghost use Rattle.text.specs.Numbers.{readDigits};
 ghost use Rattle.text.specs.Held.{Held};
 ghost use Rattle.text.specs.Put.{Put};
 ghost use Rattle.runway.specs.Runway.{readRunway};
+ghost use Rattle.runway.specs.Held.{HeldRunway};
 ghost use Rattle.surface.specs.Third.{validThird, isBlankThird};
 ghost use Rattle.thirds.specs.Groups.{codes, coverages, depths, descriptions, readGroup};
 ghost use Rattle.thirds.specs.Held.{trio};
@@ -20,7 +20,9 @@ ghost use Rattle.row.specs.Row.{blankRow, isBlankRow, validRow, isBare, 
 ghost use Rattle.row.specs.Reading.{readFull, readShort, readRest, readWidth, wholeRow, refusedRow, answer};
 ghost use Rattle.row.specs.Writing.{rowText, Wrote};
 ghost use Rattle.row.specs.Agreement.{disagrees, disagreements, agreement};
-ghost use Rattle.row.specs.Filling.{withTime, withRunway, withCodes, withRest, withWidth, fillGroup, Filled, judgedRow};
+ghost use Rattle.row.specs.Filling.{withCodes, withRest, Filled, judgedRow};
+use runway::NO_RUNWAY;
+use runway::RunwayFound;
 use runway::put_runway;
 use runway::read_runway;
 use runway::real_time;
@@ -257,35 +259,15 @@ fn no_step(row: Row) -> Step
     }
 }
 
-fn time_into(row: Row, s: &[u8]) -> Step
-    ensures { λ r. ⌜ Filled (now (s .entry)) (readAs (withTime row) (readDigits 8) (now (s .entry))) r ⌝ }
+// The runway behind a gap.
+fn gap_runway(s: &[u8]) -> RunwayFound
+    ensures { λ r. ⌜ HeldRunway (now (s .entry)) (readGap readRunway (now (s .entry))) r ⌝ }
 {
-    let f = digits(s, 0, 8);
-    let mut t = row;
-    t.time = f.value;
-    Step {
-        fits: f.fits,
-        row: t,
-        next: f.next,
+    let gap = word(s, 0, b" ", 0);
+    if gap.fits {
+        return read_runway(s, gap.next);
     }
-}
-
-fn runway_into(row: Row, s: &[u8]) -> Step
-    ensures { λ r. ⌜ Filled (now (s .entry)) (readAs (withRunway row) (readGap readRunway) (now (s .entry))) r ⌝ }
-{
-    let g = word(s, 0, b" ", 0);
-    if !g.fits {
-        return no_step(row);
-    }
-    let f = read_runway(s, g.next);
-    let mut t = row;
-    t.number = f.number;
-    t.side = f.side;
-    Step {
-        fits: f.fits,
-        row: t,
-        next: f.next,
-    }
+    NO_RUNWAY
 }
 
 fn codes_into(row: Row, s: &[u8]) -> Step
@@ -434,32 +416,6 @@ fn width(s: &[u8]) -> Found
     }
 }
 
-fn width_into(row: Row, s: &[u8]) -> Step
-    ensures { λ r. ⌜ Filled (now (s .entry)) (readAs (withWidth row) readWidth (now (s .entry))) r ⌝ }
-{
-    let f = width(s);
-    let mut t = row;
-    t.width = f.value as u8;
-    Step {
-        fits: f.fits,
-        row: t,
-        next: f.next,
-    }
-}
-
-// The groups in their order: time, runway, codes, coverages to descriptions, width.
-fn group_into(group: u8, row: Row, s: &[u8]) -> Step
-    ensures { λ r. ⌜ Filled (now (s .entry)) (fillGroup group row (now (s .entry))) r ⌝ }
-{
-    match group {
-        0 => time_into(row, s),
-        1 => runway_into(row, s),
-        2 => codes_into(row, s),
-        3 => rest_into(row, s),
-        _ => width_into(row, s),
-    }
-}
-
 const GROUPS: u8 = 5;
 
 const REFUSED_ROW: u8 = 5;
@@ -493,7 +449,8 @@ fn judged(refusal: u8, row: Row) -> RowRead
     }
 }
 
-// The row that a whole line is: group by group, each in the part of the line that is left, and the first misfit refuses it.
+// The row that a whole line is: group by group, each in the part of the line that is left, and the first misfit refuses it. The groups stand in
+// their order: time, runway, codes, coverages to descriptions, width.
 pub fn read_row(line: &[u8]) -> RowRead
     ensures { λ r. ⌜ r ≡ answer (wholeRow (now (line .entry))) ⌝ }
 {
@@ -504,12 +461,46 @@ pub fn read_row(line: &[u8]) -> RowRead
         if GROUPS <= group {
             break 'groups ending(line, at);
         }
-        let step = group_into(group, row, &line[at..]);
-        if !step.fits {
+        let part = &line[at..];
+        let mut next: usize = 0;
+        let mut fits = false;
+        match group {
+            0 => {
+                let found = digits(part, 0, 8);
+                row.time = found.value;
+                next = found.next;
+                fits = found.fits;
+            }
+            1 => {
+                let found = gap_runway(part);
+                row.number = found.number;
+                row.side = found.side;
+                next = found.next;
+                fits = found.fits;
+            }
+            2 => {
+                let step = codes_into(row, part);
+                row = step.row;
+                next = step.next;
+                fits = step.fits;
+            }
+            3 => {
+                let step = rest_into(row, part);
+                row = step.row;
+                next = step.next;
+                fits = step.fits;
+            }
+            _ => {
+                let found = width(part);
+                row.width = found.value as u8;
+                next = found.next;
+                fits = found.fits;
+            }
+        }
+        if !fits {
             break 'groups REFUSED_ROW;
         }
-        row = step.row;
-        at += step.next;
+        at += next;
         group += 1;
     };
     judged(refusal, row)

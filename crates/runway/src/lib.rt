@@ -20,7 +20,7 @@ pub struct RunwayFound {
     pub next: usize,
 }
 
-const NO_RUNWAY: RunwayFound = RunwayFound {
+pub const NO_RUNWAY: RunwayFound = RunwayFound {
     fits: false,
     number: 0,
     side: 0,
