@@ -3,7 +3,7 @@ use Prim.Native.Nat.{ℕ, zero, suc}
 use mathlib.Core.Path.{_≡_, refl}
 use mathlib.Core.List.{List, [], _∷_, map}
 use mathlib.Core.Bool.{Bool, true, false}
-use Rattle.text.specs.Held.{isSpace, isAboveReturn, startsWith}
+use Rattle.text.specs.Held.{isSpace, isAboveReturn, startsWith, lowFirst}
 use Rattle.text.specs.Choice.{pick, _and_}
 use Rattle.text.specs.Piece.{byte, gap, loose, end, last, nrGroups, bytes, spell, words, verbatim, canonical, nrText}
 use Rattle.text.specs.Read.{misfit, got, skip, readText, readGap, readLoose, readMany, whole}
@@ -123,7 +123,8 @@ pub record Blocks : Type 0 where
   pub above : map isAboveReturn (10 ∷ 12 ∷ 13 ∷ 14 ∷ 255 ∷ []) ≡ false ∷ false ∷ false ∷ true ∷ true ∷ []
   pub starting : map (λ n. startsWith n isSpace (bytes "  A ")) (0 ∷ 1 ∷ 2 ∷ 3 ∷ 4 ∷ []) ≡ true ∷ true ∷ true ∷ false ∷ false ∷ []
   pub whole : map (λ n. startsWith n isAboveReturn (bytes "AB")) (2 ∷ 3 ∷ []) ≡ true ∷ false ∷ []
+  pub numbers : map lowFirst ([] ∷ (255 ∷ []) ∷ (1 ∷ 2 ∷ []) ∷ bytes "        " ∷ []) ≡ 0 ∷ 255 ∷ 513 ∷ 2314885530818453536 ∷ []
 
 pub blocks : Blocks
-unfolding _and_ startsWith
-blocks = record { spaces = refl; above = refl; starting = refl; whole = refl }
+unfolding _and_ startsWith lowFirst
+blocks = record { spaces = refl; above = refl; starting = refl; whole = refl; numbers = refl }

@@ -1,14 +1,13 @@
 -- The invariant of both loops: past the spaces of what is left stands what stood past those at i.
-use native.Mathlib.Omega.{arith}
-use mathlib.Core.Path.{sym, _∙_, ap}
-use Rattle.text.proofs.Steps.{past-stop, past-on, past-off, past-block, skip-past}
-use borrow.Author.Tests.{eq-eqb, ne-eqb}
-use borrow.Author.Needs.{needs}
 use Prim.Native.Nat.{_-_, _≤_}
+use mathlib.Core.Path.{_≡_, sym, _∙_, ap}
+use native.Mathlib.Omega.{arith}
 use lib.ListN.{length, drop}
 use Rattle.text.specs.Names.{past}
 use Rattle.text.specs.Held.{isSpace}
-use mathlib.Core.Path.{_≡_}
+use Rattle.text.proofs.Eights.{spaces-end, spaces-on}
+use Rattle.text.proofs.Steps.{past-block, skip-past}
+use borrow.Author.Needs.{needs}
 use Rattle.text.proofs.far_spaces.Statement.{statement}
 use Rattle.text.proofs.far_spaces.Tie as tie
 
@@ -45,11 +44,26 @@ loop-again c = let q = c .before in let l = q .before .loop in let a = q .before
 loop2-holds : tie.Need-loop2-holds Inv-loop μ-loop Inv-loop2 μ-loop2
 loop2-holds c = search needs
 
-shared-slice-read-if2 : tie.Need-shared-slice-read-if2 Inv-loop μ-loop Inv-loop2 μ-loop2
-shared-slice-read-if2 c = search needs
+sub-loop2 : tie.Need-sub-loop2 Inv-loop μ-loop Inv-loop2 μ-loop2
+sub-loop2 c = search needs
+
+leading-spaces-requires : tie.Need-leading-spaces-requires Inv-loop μ-loop Inv-loop2 μ-loop2
+leading-spaces-requires c κs = search needs
+
+add-result : tie.Need-add-result Inv-loop μ-loop Inv-loop2 μ-loop2
+add-result c =
+    let q = c .before in
+    let l = q .before .before .loop2 in
+    let m = q .before .before .before .before .before .before .before .before .args .s .now in
+    omega (arith, spaces-end m (l .j) (omega arith) (q .leading-spaces .ensures) (c .if2 .taken) .within)
 
 returns : tie.Need-returns Inv-loop μ-loop Inv-loop2 μ-loop2
-returns c = let l = c .before .before .before in let a = l .before .before .before .before .before .before .args in record { within = search needs; left = sym (past-off isSpace (a .s .now) (l .loop2 .j) (search needs) (ne-eqb _ 32 (c .if2 .taken))) ∙ l .loop2 .inv .1 ∙ sym (skip-past (drop (a .i) (a .s .now))) }
+returns c =
+    let q = c .before in
+    let l = q .before .before .loop2 in
+    let a = q .before .before .before .before .before .before .before .before .args in
+    let r = spaces-end (a .s .now) (l .j) (omega arith) (q .leading-spaces .ensures) (c .if2 .taken) in
+    record { within = r .within; left = r .left ∙ l .inv .1 ∙ sym (skip-past (drop (a .i) (a .s .now))) }
 
 add-j-2 : tie.Need-add-j-2 Inv-loop μ-loop Inv-loop2 μ-loop2
 add-j-2 c = search needs
@@ -58,10 +72,20 @@ loop2-less : tie.Need-loop2-less Inv-loop μ-loop Inv-loop2 μ-loop2
 loop2-less c = search needs
 
 loop2-again : tie.Need-loop2-again Inv-loop μ-loop Inv-loop2 μ-loop2
-loop2-again c = let l = c .before .before .before in let a = l .before .before .before .before .before .before .args in (search needs, sym (past-on isSpace (a .s .now) (l .loop2 .j) (search needs) (eq-eqb _ 32 (c .if2 .left))) ∙ l .loop2 .inv .1)
+loop2-again c =
+    let q = c .before in
+    let l = q .before .before .loop2 in
+    let m = q .before .before .before .before .before .before .before .before .args .s .now in
+    (search needs, spaces-on m (l .j) (omega arith) (q .leading-spaces .ensures) (c .if2 .left) ∙ l .inv .1)
+
+last-spaces-requires : tie.Need-last-spaces-requires Inv-loop μ-loop Inv-loop2 μ-loop2
+last-spaces-requires c κs = search needs
 
 returns-2 : tie.Need-returns-2 Inv-loop μ-loop Inv-loop2 μ-loop2
-returns-2 c = let a = c .before .before .before .before .before .before .before .args in record { within = search needs; left = sym (past-stop isSpace (a .s .now) (c .before .loop2 .j) (search needs)) ∙ c .before .loop2 .inv .1 ∙ sym (skip-past (drop (a .i) (a .s .now))) }
+returns-2 c =
+    let l = c .before .before .loop2 in
+    let a = c .before .before .before .before .before .before .before .before .args in
+    record { within = c .last-spaces .ensures .within; left = c .last-spaces .ensures .left ∙ skip-past (drop (l .j) (a .s .now)) ∙ l .inv .1 ∙ sym (skip-past (drop (a .i) (a .s .now))) }
 
 pub far-spaces-spec : {M : Type 1} → statement M
 far-spaces-spec =
@@ -78,9 +102,12 @@ far-spaces-spec =
     loop-less
     loop-again
     loop2-holds
-    shared-slice-read-if2
+    sub-loop2
+    leading-spaces-requires
+    add-result
     returns
     add-j-2
     loop2-less
     loop2-again
+    last-spaces-requires
     returns-2)
