@@ -17,8 +17,9 @@ use Rattle.items.specs.declared.Item.{Item}
 use Rattle.items.specs.Item.{letters, letterI, letterJ, letterK, letterL, letterM, letterN, letterO, letterP, letterR, onRunway, onTaxiways, runwayFits, amountFits, edgeFits, countFits, isTaxiway, validSlot, isNew, slotsFit, taxiwaysFit, nameFits, numbersFit, validItem}
 use Rattle.items.specs.ItemText.{itemText, itemPieces}
 use Rattle.items.specs.ReadItem.{readLength, readBank, readNeither, readDetail, readTaxiway, readTaxiways, readApron, readRunwayForm, readTaxiForm, readApronForm, readBareForm, readForm, readBody, readItem, bareItem, taxiItem, apronItem, runwayItem}
-use Rattle.items.specs.Awareness.{sameRunway, otherApron, mayRepeat, mayFollow, inOrder, readAwareness, wholeAwareness, awarenessPieces}
+use Rattle.items.specs.Awareness.{sameRunway, otherApron, mayRepeat, mayFollow, inOrder, soundItems, readAwareness, wholeAwareness, awarenessPieces, isBlank, noNumbers, isBlankItem, validItemArray}
 use Rattle.items.specs.Language.{lastIs, validLanguage, validLanguageArray}
+use Rattle.items.specs.Held.{languageAnswer}
 
 -- the line is taken
 abbrev taken : String → Bool
@@ -112,6 +113,16 @@ count-most : (fits (wholeAwareness (aprons (bytes "0123456789ABCDEFGHIJKLMNOPQRS
 unfolding readAwareness wholeAwareness awarenessPieces inOrder mayFollow mayRepeat otherApron sameRunway readItem readBody readForm readRunwayForm readTaxiForm readApronForm readBareForm readDetail readLength readBank readNeither readTaxiway readTaxiways readApron validItem numbersFit runwayFits amountFits edgeFits countFits isTaxiway validSlot isNew slotsFit taxiwaysFit nameFits onRunway onTaxiways itemText itemPieces validRunway readDigits digits readName run past readText skip spell _and_ readMany slots flat aprons
 count-most = (refl, refl)
 
+-- the same in a record's array: 32 that were read, and one more
+read : Got (List Item) → List Item
+read misfit = []
+read (got is m) = is
+
+array-most : (validItemArray 32 (read (wholeAwareness (aprons (bytes "0123456789ABCDEFGHIJKLMNOPQRSTUV")))) ≡ true)
+    × (validItemArray 33 (map (λ c. apronItem (c ∷ [])) (bytes "0123456789ABCDEFGHIJKLMNOPQRSTUVW")) ≡ false)
+unfolding readAwareness wholeAwareness awarenessPieces inOrder mayFollow mayRepeat otherApron sameRunway readItem readBody readForm readRunwayForm readTaxiForm readApronForm readBareForm readDetail readLength readBank readNeither readTaxiway readTaxiways readApron validItem numbersFit runwayFits amountFits edgeFits countFits isTaxiway validSlot isNew slotsFit taxiwaysFit nameFits onRunway onTaxiways itemText itemPieces validRunway readDigits digits readName run past readText skip spell _and_ readMany slots flat aprons read validItemArray soundItems isBlankItem noNumbers isBlank
+array-most = (refl, refl)
+
 -- plain language: the bytes that may stand in it, and the edges of its rules
 abbrev language : String → Bool
 language s = validLanguage (bytes s)
@@ -139,3 +150,7 @@ plain-held : (validLanguageArray 400 (replicate 399 65 ++ bytes ".") ≡ true) �
     × (validLanguageArray 2 (bytes "A." ++ replicate 398 0) ≡ true) × (validLanguageArray 2 (bytes "A." ++ (replicate 397 0 ++ (1 ∷ []))) ≡ false)
 unfolding isMark validLanguage validLanguageArray lastIs _and_
 plain-held = (refl, refl, refl, refl)
+
+-- as it is answered: zeros past the length, and a misfit is all zero
+plain-answers : (languageAnswer misfit ≡ record { fits = false; length = 0; bytes = replicate 400 0 }) × (languageAnswer (got (bytes "A.") []) ≡ record { fits = true; length = 2; bytes = bytes "A." ++ replicate 398 0 })
+plain-answers = (refl, refl)

@@ -7,6 +7,7 @@ use Rattle.text.specs.Choice.{_and_}
 use Rattle.text.specs.Piece.{bytes}
 use Rattle.runway.specs.Time.{isShortMonth, daysOf, realDay, realClock, realTime, later}
 use Rattle.runway.specs.Runway.{validRunway, sideName, sideOf, isSide}
+use Rattle.runway.specs.Held.{noRunway}
 
 abbrev lastDays : List ℕ
 lastDays = 1310000 ∷ 2290000 ∷ 3310000 ∷ 4300000 ∷ 5310000 ∷ 6300000 ∷ 7310000 ∷ 8310000 ∷ 9300000 ∷ 10310000 ∷ 11300000 ∷ 12310000 ∷ []
@@ -59,8 +60,10 @@ pub record Runways : Type 0 where
   pub sides : map (λ s. validRunway 18 7 s) (0 ∷ 1 ∷ 2 ∷ 3 ∷ 4 ∷ []) ≡ true ∷ true ∷ true ∷ true ∷ false ∷ []
   pub names : map sideName (0 ∷ 1 ∷ 2 ∷ 3 ∷ []) ≡ [] ∷ bytes "L" ∷ bytes "C" ∷ bytes "R" ∷ []
   pub of-bytes : map sideOf (bytes "LCRX") ≡ 1 ∷ 2 ∷ 3 ∷ 0 ∷ []
+  -- a misfit is all zero
+  pub nothing : noRunway ≡ record { fits = false; number = 0; side = 0; next = 0 }
   pub are-sides : map isSide (bytes "LCRX") ≡ true ∷ true ∷ true ∷ false ∷ []
 
 pub runways : Runways
 unfolding validRunway _and_
-runways = record { numbers = refl; higher = refl; sides = refl; names = refl; of-bytes = refl; are-sides = refl }
+runways = record { numbers = refl; higher = refl; sides = refl; names = refl; of-bytes = refl; nothing = refl; are-sides = refl }

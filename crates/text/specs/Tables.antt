@@ -3,8 +3,8 @@ use Prim.Native.Nat.{ℕ, zero, suc}
 use mathlib.Core.Path.{_≡_, refl}
 use mathlib.Core.List.{List, [], _∷_, map}
 use mathlib.Core.Bool.{Bool, true, false}
-use Rattle.text.specs.Held.{isSpace, isAboveReturn, startsWith, lowFirst}
-use Rattle.text.specs.Choice.{pick, _and_}
+use Rattle.text.specs.Held.{none, noSpan, isSpace, isAboveReturn, startsWith, lowFirst, isByte, Eight}
+use Rattle.text.specs.Choice.{pick, _and_, isEmpty}
 use Rattle.text.specs.Piece.{byte, gap, loose, end, last, nrGroups, bytes, spell, words, verbatim, canonical, nrText}
 use Rattle.text.specs.Read.{misfit, got, skip, readText, readGap, readLoose, readMany, whole}
 use Rattle.text.specs.Numbers.{isDigit, readDigits, digits, number, readNumber}
@@ -93,6 +93,7 @@ pub record Lined : Type 0 where
   pub mixed : lines (65 ∷ 10 ∷ 66 ∷ 13 ∷ 10 ∷ 67 ∷ []) ≡ (65 ∷ []) ∷ (66 ∷ []) ∷ (67 ∷ []) ∷ []
   pub empties : lines (10 ∷ 13 ∷ 10 ∷ []) ≡ [] ∷ [] ∷ []
   pub returns : lines (65 ∷ 13 ∷ 13 ∷ 10 ∷ 13 ∷ 66 ∷ 13 ∷ []) ≡ (65 ∷ 13 ∷ []) ∷ (13 ∷ 66 ∷ 13 ∷ []) ∷ []
+  pub ends : map endSize ([] ∷ (10 ∷ []) ∷ (13 ∷ 10 ∷ []) ∷ (13 ∷ []) ∷ (65 ∷ 10 ∷ []) ∷ []) ≡ 0 ∷ 1 ∷ 2 ∷ 0 ∷ 0 ∷ []
   pub sizes : map lineSize ((65 ∷ 10 ∷ 66 ∷ []) ∷ (65 ∷ 13 ∷ 10 ∷ []) ∷ (65 ∷ 13 ∷ []) ∷ [] ∷ []) ≡ 1 ∷ 1 ∷ 2 ∷ 0 ∷ []
   pub steps : map lineStep ((65 ∷ 10 ∷ 66 ∷ []) ∷ (65 ∷ 13 ∷ 10 ∷ []) ∷ (65 ∷ 13 ∷ []) ∷ [] ∷ []) ≡ 2 ∷ 3 ∷ 2 ∷ 0 ∷ []
   pub closings : map closed (bytes "A)" ∷ bytes ")" ∷ bytes ")A" ∷ [] ∷ []) ≡ true ∷ true ∷ false ∷ false ∷ []
@@ -104,18 +105,19 @@ pub record Lined : Type 0 where
 
 pub lined : Lined
 unfolding lines endSize lineSize lineStep linesSize closed front ended spell
-lined = record { none = refl; mixed = refl; empties = refl; returns = refl; sizes = refl; steps = refl; closings = refl; texts = refl; counted = refl; behind = (refl, refl); under = refl }
+lined = record { none = refl; mixed = refl; empties = refl; returns = refl; ends = refl; sizes = refl; steps = refl; closings = refl; texts = refl; counted = refl; behind = (refl, refl); under = refl }
 
 -- lists in arrays, zeros behind
 pub record Held : Type 0 where
   pub padded : pad {A = ℕ} 4 0 (7 ∷ 8 ∷ []) ≡ 7 ∷ 8 ∷ 0 ∷ 0 ∷ []
   pub slotted : (slots 2 2 (1 ∷ 2 ∷ 3 ∷ 4 ∷ 5 ∷ []) ≡ (1 ∷ 2 ∷ []) ∷ (3 ∷ 4 ∷ []) ∷ []) × (pastSlots 2 2 (1 ∷ 2 ∷ 3 ∷ 4 ∷ 5 ∷ []) ≡ 5 ∷ [])
   pub flattened : flat ((1 ∷ 2 ∷ []) ∷ (3 ∷ []) ∷ []) ≡ 1 ∷ 2 ∷ 3 ∷ []
+  pub empty : (isEmpty {A = ℕ} [] ≡ true) × (isEmpty {A = ℕ} (7 ∷ []) ≡ false)
   pub far : (told (7 ∷ []) 65537 ≡ 65537) × (told (7 ∷ []) 65538 ≡ 65537) × (farthest [] ≡ 65536)
 
 pub held : Held
 unfolding slots pastSlots flat told
-held = record { padded = refl; slotted = (refl, refl); flattened = refl; far = (refl, refl, refl) }
+held = record { padded = refl; slotted = (refl, refl); flattened = refl; empty = (refl, refl); far = (refl, refl, refl) }
 
 -- blocks of bytes that are looked at together
 pub record Blocks : Type 0 where
@@ -123,8 +125,18 @@ pub record Blocks : Type 0 where
   pub above : map isAboveReturn (10 ∷ 12 ∷ 13 ∷ 14 ∷ 255 ∷ []) ≡ false ∷ false ∷ false ∷ true ∷ true ∷ []
   pub starting : map (λ n. startsWith n isSpace (bytes "  A ")) (0 ∷ 1 ∷ 2 ∷ 3 ∷ 4 ∷ []) ≡ true ∷ true ∷ true ∷ false ∷ false ∷ []
   pub whole : map (λ n. startsWith n isAboveReturn (bytes "AB")) (2 ∷ 3 ∷ []) ≡ true ∷ false ∷ []
+  pub bytes-end : map isByte (0 ∷ 255 ∷ 256 ∷ []) ≡ true ∷ true ∷ false ∷ []
+  pub eight : Eight (bytes " ABCDEFGHI") 1 5208208757389214273
   pub numbers : map lowFirst ([] ∷ (255 ∷ []) ∷ (1 ∷ 2 ∷ []) ∷ bytes "        " ∷ []) ≡ 0 ∷ 255 ∷ 513 ∷ 2314885530818453536 ∷ []
 
 pub blocks : Blocks
 unfolding _and_ startsWith lowFirst
-blocks = record { spaces = refl; above = refl; starting = refl; whole = refl; numbers = refl }
+blocks = record { spaces = refl; above = refl; starting = refl; whole = refl; bytes-end = refl; eight = record { says = refl; bytes = refl }; numbers = refl }
+
+-- what is answered where nothing is found is all zero
+pub record Nothing : Type 0 where
+  pub found : none ≡ record { fits = false; value = 0; next = 0 }
+  pub bytes : noSpan ≡ record { fits = false; start = 0; next = 0 }
+
+pub nothing : Nothing
+nothing = record { found = refl; bytes = refl }
