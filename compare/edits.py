@@ -1,17 +1,25 @@
 #!/usr/bin/env python3
-"""Random single edits of definitions and of code, each of which the prover has to refuse.
+"""Single edits of definitions and of code, each of which the prover has to refuse.
 
     python3 compare/edits.py definitions|code COUNT SEED
+    python3 compare/edits.py every DIR [PART/PARTS]
 
-Run it in a copy of the tree that is proved (`rt check`), since it edits files in place and puts them back. An edit changes one
-numeral by one, one comparison, one truth value, one sign, one letter of a text or one number of a list of bytes. It is tried on
-its crate, and, where that still proves, on the crates above it in the order of crates.txt. A row of a table is printed for each:
-the place, the edit, and where it was refused with the first error; an edit that no crate refuses is called KEPT, and the
-status is then 1.
+An edit changes one numeral by one, one comparison, one truth value, one sign, one letter of a text or one number of a list of bytes.
+
+The first form tries COUNT random ones. Run it in a copy of the tree that is proved (`rt check`), since it edits files in place and
+puts them back. An edit is tried on its crate, and, where that still proves, on the crates above it in the order of crates.txt.
+
+The second form tries every edit of every definition, a numeral both ways and a text letter by letter, against the laws and the
+tables alone: it writes the tree without its functions and their proofs to DIR, checks that, and edits it there. So it is told
+whether a law or a table refuses an edit, whatever the code would say. PART/PARTS tries a share of them, for several at a time.
+
+A row of a table is printed for each: the place, the edit, and where it was refused with the first error; an edit that no crate
+refuses is called KEPT, and the status is then 1.
 """
 import pathlib
 import random
 import re
+import shutil
 import subprocess
 import sys
 
@@ -22,19 +30,21 @@ SWAPS = {"eqb": "ltb", "leb": "ltb", "ltb": "leb", "true": "false", "false": "tr
          "!=": "==", "+": "-"}
 IN_DEFINITIONS = re.compile(r'"(?P<text>[^"]*)"|(?<![\w₀-₉.])(?<!Type )(?P<number>\d+)(?![\w₀-₉])(?! =)|(?<![\w.-])(?P<word>eqb|leb|ltb|true|false)(?![\w-])')
 IN_CODE = re.compile(r'"(?P<text>[^"]*)"|b\'(?P<byte>[^\\])\'|(?<![\w.])(?P<number>\d+)(?!\w)|(?<= )(?P<word><=|<|==|!=|\+|true|false)(?=[ ;,])')
+# Where a word that an edit brings in comes from, so that the edit is refused for what it says and not for a name that is not in scope.
+HOMES = {"leb": "lib.Dec", "ltb": "lib.Dec", "true": "mathlib.Core.Bool", "false": "mathlib.Core.Bool"}
 
 
-def crates():
+def crates(root):
     """The crates in their order, with what each uses."""
-    lines = (ROOT / "crates.txt").read_text().splitlines()
+    lines = (root / "crates.txt").read_text().splitlines()
     return {name.strip(): uses.split() for name, uses in (line.split(":", 1) for line in lines if ":" in line)}
 
 
 def definition_lines(path):
-    """The lines of a definition file that define something: no comment, no `use`, no signature of a field."""
+    """The lines of a definition file that define something: no comment, no `use`, no precedence, no signature of a field."""
     for number, line in enumerate(path.read_text().splitlines()):
         code = line.split("--")[0]
-        if not re.match(r"\s*(use|ghost|pub mod|unfolding)\b", code):
+        if not re.match(r"\s*(use|ghost|pub mod|unfolding|infix[lr]?)\b", code):
             yield number, code
 
 
@@ -46,11 +56,11 @@ def code_lines(path):
             yield number, code
 
 
-def candidates(kind):
-    """Every place that may be edited, as (crate, file, line, start, end, old, new choices)."""
+def candidates(root, kind):
+    """Every place that may be edited, as (crate, file, line, match)."""
     found = []
-    for crate in crates():
-        base = ROOT / "crates" / crate
+    for crate in crates(root):
+        base = root / "crates" / crate
         if not (base / "specs").is_dir():
             continue  # a program: what it prints is compared, it promises nothing
         if kind == "definitions":
@@ -65,26 +75,22 @@ def candidates(kind):
     return found
 
 
-def changed(match, rng):
-    """The edited words for a match; None where there is none (an empty text, a type)."""
+def changes(match):
+    """Every edit of a match."""
     part, value = match.lastgroup, match[match.lastgroup]
     if part == "number":
-        n = int(value)
-        return str(n + 1 if n == 0 or rng.random() < 0.5 else n - 1)
+        return [str(n) for n in (int(value) + 1, int(value) - 1) if n >= 0]
     if part == "word":
-        return SWAPS[value]
+        return [SWAPS[value]]
     if part == "byte":
-        return f"b'{chr(ord(value) + 1)}'"
+        return [f"b'{chr(ord(value) + 1)}'"]
     letters = [i for i, c in enumerate(value) if c.isalnum() or c in " /."]
-    if not letters:
-        return None
-    i = rng.choice(letters)
-    return '"' + value[:i] + ("X" if value[i] != "X" else "Y") + value[i + 1:] + '"'
+    return ['"' + value[:i] + ("X" if value[i] != "X" else "Y") + value[i + 1:] + '"' for i in letters]
 
 
-def try_crate(crate):
+def try_crate(root, crate):
     """None where the crate still proves, else the first error: that of a table before that of a law, and that before that of a function's proof."""
-    ran = subprocess.run(["rt", "dev", crate], cwd=ROOT, capture_output=True, text=True)
+    ran = subprocess.run(["rt", "dev", crate], cwd=root, capture_output=True, text=True)
     if ran.returncode == 0:
         return None
     lines = (ran.stdout + ran.stderr).splitlines()
@@ -94,46 +100,100 @@ def try_crate(crate):
     return (evaluated or stated or errors or lines or ["no word"])[0]
 
 
-def refusal(crate):
+def refusal(root, crate):
     """Where the edit is refused: the crate itself, or one above it, which sees its definitions and, of code, its constants."""
-    above = [name for name, uses in crates().items() if crate in uses]
+    above = [name for name, uses in crates(root).items() if crate in uses]
     for name in [crate] + above:
-        error = try_crate(name)
+        error = try_crate(root, name)
         if error is not None:
             return name, error
     return None, "KEPT"
 
 
-def main():
-    kind, count, seed = sys.argv[1], int(sys.argv[2]), int(sys.argv[3])
+def tried(root, crate, path, number, match, new):
+    """Tries one edit, puts the file back and prints its row; whether it was refused."""
+    before = path.read_text()
+    lines = before.split("\n")
+    line = lines[number]
+    lines[number] = line[:match.start()] + new + line[match.end():]
+    if new in HOMES and path.suffix == ".antt":
+        home = re.escape(HOMES[new])
+        lines = [re.sub(rf"use {home}\.\{{(?!.*\b{new}\b)", f"use {HOMES[new]}.{{{new}, ", x) for x in lines]
+    path.write_text("\n".join(lines))
+    try:
+        name, error = refusal(root, crate)
+    finally:
+        path.write_text(before)
+    where = f"{path.relative_to(root / 'crates')}:{number + 1}"
+    print(f"| {where} | `{line.strip()[:70]}` | `{match[0]}` to `{new}` | {name or '-'} | {error[:160]} |".replace("\n", " "), flush=True)
+    return name is not None
+
+
+def at_random(kind, count, seed):
+    """COUNT random edits at places that differ; whether all were refused."""
     rng = random.Random(seed)
-    places = candidates(kind)
-    kept = 0
+    places = candidates(ROOT, kind)
     print(f"{len(places)} places", file=sys.stderr)
-    tried = set()
-    while len(tried) < count:
+    seen = set()
+    refused = True
+    while len(seen) < count:
         at = rng.randrange(len(places))
-        crate, path, number, match = places[at]
-        new = changed(match, rng)
-        if at in tried or new is None:
-            continue
-        tried.add(at)
-        before = path.read_text()
-        lines = before.split("\n")
-        line = lines[number]
-        lines[number] = line[:match.start()] + new + line[match.end():]
-        if new == "ltb" and kind == "definitions":
-            # so that the edit is refused for what it says and not for a name that is not in scope
-            lines = [re.sub(r"use lib\.Dec\.\{(?!.*\bltb\b)", "use lib.Dec.{ltb, ", x) for x in lines]
-        path.write_text("\n".join(lines))
-        try:
-            name, error = refusal(crate)
-        finally:
-            path.write_text(before)
-        kept += name is None
-        where = f"{path.relative_to(ROOT / 'crates')}:{number + 1}"
-        print(f"| {where} | `{line.strip()[:70]}` | `{match[0]}` to `{new}` | {name or '-'} | {error[:160]} |".replace("\n", " "), flush=True)
-    return 1 if kept else 0
+        news = changes(places[at][3])
+        if at not in seen and news:
+            seen.add(at)
+            refused &= tried(ROOT, *places[at], rng.choice(news))
+    return refused
+
+
+def without_functions(code):
+    """A file of code with its types and constants alone."""
+    kept, inside = [], False
+    for line in code.splitlines():
+        if inside:
+            inside = not line.startswith("}")
+        elif re.match(r'(pub )?(extern "C" )?fn ', line):
+            inside = True
+        elif not re.match(r"#\[no_mangle\]|ghost use|use \w+::(?!description;)[a-z_]+;", line):
+            kept.append(line)
+    return "\n".join(kept) + "\n"
+
+
+def bare_tree(root):
+    """Writes the libraries without their functions and the proofs of these."""
+    shutil.rmtree(root, ignore_errors=True)
+    for crate in [name for name in crates(ROOT) if (ROOT / "crates" / name / "specs").is_dir()]:
+        base = pathlib.Path("crates") / crate
+        shutil.copytree(ROOT / base / "specs", root / base / "specs")
+        for path in (ROOT / base / "src").rglob("*.rt"):
+            copy = root / path.relative_to(ROOT)
+            copy.parent.mkdir(parents=True, exist_ok=True)
+            copy.write_text(without_functions(path.read_text()))
+    listed = [line for line in (ROOT / "crates.txt").read_text().splitlines() if (root / "crates" / line.split(":")[0]).is_dir()]
+    (root / "crates.txt").write_text("\n".join(listed) + "\n")
+    if subprocess.run(["rt", "check"], cwd=root, stdout=subprocess.DEVNULL).returncode != 0:
+        sys.exit("the definitions, laws and tables do not check by themselves")
+
+
+def every(root, part, parts):
+    """Every edit of every definition, or a share of them; whether all were refused."""
+    bare_tree(root)
+    edits = [(*place, new) for place in candidates(root, "definitions") for new in changes(place[3])]
+    print(f"{len(edits)} edits", file=sys.stderr)
+    return all([tried(root, *edit) for edit in edits[part::parts]])
+
+
+def main():
+    match sys.argv[1:]:
+        case ["every", directory]:
+            refused = every(pathlib.Path(directory), 0, 1)
+        case ["every", directory, share]:
+            part, parts = share.split("/")
+            refused = every(pathlib.Path(directory), int(part) - 1, int(parts))
+        case [kind, count, seed]:
+            refused = at_random(kind, int(count), int(seed))
+        case _:
+            sys.exit(__doc__)
+    return 0 if refused else 1
 
 
 if __name__ == "__main__":

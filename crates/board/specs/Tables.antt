@@ -7,7 +7,7 @@ use mathlib.Core.Bool.{true, false}
 use lib.ListN.{replicate}
 use Rattle.text.specs.Choice.{_and_}
 use Rattle.text.specs.Piece.{bytes, spell}
-use Rattle.text.specs.Read.{skip, readText, readMany}
+use Rattle.text.specs.Read.{misfit, skip, readText, readMany}
 use Rattle.text.specs.Names.{readName, readCount}
 use Rattle.text.specs.Numbers.{digits, readDigits}
 use Rattle.text.specs.Arrays.{pad}
@@ -29,7 +29,7 @@ use Rattle.board.specs.declared.Board.{Board}
 use Rattle.board.specs.declared.Details.{Details}
 use Rattle.board.specs.Board.{places, blankRunway, isBlankRunway, comesBefore, rises, rising, isAerodrome, validList, names, fitsPlace, fitPlaces, validPlaces, validBoard, blankBoard, fresh, answer, opening}
 use Rattle.board.specs.Report.{placeOf, isNews, report, reports}
-use Rattle.board.specs.Line.{readSpaced, readOpening, openingLine, reportLine, shownText}
+use Rattle.board.specs.Line.{readSpaced, readOpening, listAnswer, openingLine, reportLine, shownText}
 use Rattle.board.specs.Writing.{reported, recordOf, writingBoard, writtenBoard}
 
 -- sides: 0 none, 1 L, 2 C, 3 R
@@ -145,10 +145,13 @@ pub record Lines : Type 0 where
   -- "the rows shown, one a line"
   line : shownText left ≡ bytes "01120610 07L 6/6/6 DRY/DRY/DRY" ++ (10 ∷ [])
   none : shownText blankRow ≡ []
+  -- a list that does not fit is none, and so is a place in none
+  no-list : listAnswer misfit ≡ record { count = 0; runways = replicate 8 (runway 0 0) }
+  places-of : map (placeOf left) ([] ∷ (runway 7 1 ∷ []) ∷ (runway 7 3 ∷ runway 7 1 ∷ []) ∷ (runway 7 3 ∷ []) ∷ []) ≡ 0 ∷ 0 ∷ 1 ∷ 1 ∷ []
 
 pub lines : Lines
 unfolding _and_ spell skip readText readMany readName readCount digits readDigits isShortMonth daysOf realDay realClock realTime later validRunway isContaminant isDeep isCoverage validCoverage leastDepth isReported validDepth validThird isBlankThird measurePieces readMeasure readCoverage readDescription thirdPieces readThird readGroup threeThat isBlankRow validRow isBare isSix isDry isShort middlePieces widthPieces rowPieces readFull readShort readWidth readRow isLetters readAerodrome isAerodrome isBlankRunway comesBefore rises rising validList names fitsPlace fitPlaces validPlaces validBoard opening placeOf isNews report readSpaced readOpening openingLine reportLine shownText
-lines = record { opened = refl; most = refl; spaces = refl; texts = refl; refused = refl; blank = (refl, refl, refl, refl); report = refl; typed = refl; rows = refl; long = refl; line = refl; none = refl }
+lines = record { opened = refl; most = refl; spaces = refl; texts = refl; refused = refl; blank = (refl, refl, refl, refl); report = refl; typed = refl; rows = refl; long = refl; line = refl; none = refl; no-list = refl; places-of = refl }
 
 -- "Writing a board: 17, 21": before anything is asked of the details, and no byte is touched
 pub record Writings : Type 0 where

@@ -1,14 +1,31 @@
--- "No runway twice": number and side together, evaluated.
+-- "No runway twice": number and side together; the refusals of lines that are missing or too many; the answers, evaluated.
 use Prim.Native.Nat.{ℕ}
 use mathlib.Core.Path.{_≡_, refl}
-use mathlib.Core.List.{[], _∷_, map}
-use mathlib.Core.Bool.{true, false}
+use mathlib.Core.List.{List, [], _∷_, map}
+use mathlib.Core.Bool.{Bool, true, false}
+use lib.Dec.{lit≤}
+use lib.ListN.{replicate}
 use Rattle.text.specs.Choice.{_and_}
+use Rattle.text.specs.Piece.{bytes}
+use Rattle.text.specs.Read.{skip, readText}
+use Rattle.text.specs.Names.{readName}
+use Rattle.text.specs.Numbers.{readDigits}
+use Rattle.text.specs.Lines.{lines, linesSize, closed, front}
+use Rattle.text.specs.Out.{refuse}
 use Rattle.row.specs.declared.Row.{Row}
-use Rattle.row.specs.Row.{blankRow}
-use Rattle.body.specs.Rows.{sameRunway, isAmong, newRunways, latest}
+use Rattle.row.specs.Row.{blankRow, threeThat, validRow, isBare, isSix, isDry, isShort}
+use Rattle.row.specs.Reading.{readFull, readShort, readWidth, readRow}
+use Rattle.body.specs.Rows.{mostRows, makeRows, more, sameRunway, isAmong, newRunways, latest, readRows}
 use Rattle.body.specs.Rows as Rows
-use Rattle.runway.specs.Time.{later}
+use Rattle.body.specs.Remarks.{readLanguageLine, readRemarks}
+use Rattle.body.specs.Held.{noRows, rowsAnswer, RowsHeld}
+use Rattle.body.specs.declared.Rows.{Rows}
+use Rattle.body.specs.declared.RowsRead.{RowsRead}
+use Rattle.runway.specs.Time.{isShortMonth, daysOf, realDay, realClock, realTime, later}
+use Rattle.runway.specs.Runway.{validRunway}
+use Rattle.surface.specs.Descriptions.{isContaminant, isDeep, notReported, dry}
+use Rattle.surface.specs.Third.{third, isCoverage, validCoverage, leastDepth, isReported, validDepth, validThird}
+use Rattle.thirds.specs.Groups.{measurePieces, readMeasure, readCoverage, readDescription, readThird, readGroup}
 
 -- rows of which only the runway or the time matters
 abbrev on : ℕ → ℕ → Row
@@ -27,3 +44,49 @@ pub record Runways : Type 0 where
 pub runways : Runways
 unfolding _and_ sameRunway isAmong newRunways latest Rows.latestOf Rows.latestFrom later
 runways = record { same = refl; among = refl; new = refl; times = refl }
+
+-- a closed line, and the row that it is
+abbrev line : List ℕ
+line = bytes "01120640 12 6/6/6 DRY/DRY/DRY)"
+
+abbrev dries : Row
+dries = record { time = 1120640; number = 12; side = 0; thirds = third 6 notReported notReported dry ∷ third 6 notReported notReported dry ∷ third 6 notReported notReported dry ∷ []; width = 0 }
+
+abbrev rows : Rows
+rows = makeRows (dries ∷ [])
+
+-- the rows with a refusal, `)` or none, and a place
+abbrev told : ℕ → Rows → Bool → ℕ → RowsRead
+told n r c at = record { refusal = n; rows = r; closed = c; next = at }
+
+pub record Answers : Type 0 where
+  -- "1 to 8 runway rows": 4 where none is left to read, 6 for a ninth
+  most : mostRows ≡ 8
+  missing : map (λ n. readRows n (dries ∷ []) []) (0 ∷ 8 ∷ []) ≡ refuse 4 ∷ refuse 4 ∷ []
+  ninth : readRows 0 (dries ∷ []) (line ∷ []) ≡ refuse 6
+  -- 4 where the awareness line, or that of plain language, is missing
+  no-remarks : readRemarks (more []) ≡ refuse 4
+  no-language : readLanguageLine [] [] ≡ refuse 4
+  -- a refused reading is blank
+  none : noRows 5 ≡ told 5 (record { count = 0; rows = replicate 8 blankRow }) false 0
+  closed-rows : rowsAnswer 0 rows true 31 ≡ told 0 rows true 0
+  open-rows : rowsAnswer 0 rows false 31 ≡ told 0 rows false 31
+  refused-rows : map (λ n. rowsAnswer n rows true 31) (1 ∷ 7 ∷ []) ≡ noRows 1 ∷ noRows 7 ∷ []
+  held-none : RowsHeld [] (noRows 4)
+  held-closed : RowsHeld line (told 0 rows true 0)
+
+pub answers : Answers
+unfolding _and_ skip readText readName readDigits measurePieces readMeasure readCoverage readDescription readThird readGroup readFull readShort readWidth readRow isShortMonth daysOf realDay realClock realTime validRunway isContaminant isDeep isCoverage validCoverage leastDepth isReported validDepth validThird threeThat validRow isBare isSix isDry isShort lines linesSize closed front isAmong readRows rowsAnswer
+answers = record {
+  most = refl;
+  missing = refl;
+  ninth = refl;
+  no-remarks = refl;
+  no-language = refl;
+  none = refl;
+  closed-rows = refl;
+  open-rows = refl;
+  refused-rows = refl;
+  held-none = record { kept = record { few = lit≤ tt; zeros = refl }; says = refl; place = refl; blank = refl };
+  held-closed = record { kept = record { few = lit≤ tt; zeros = refl }; says = refl; place = refl; blank = refl };
+}

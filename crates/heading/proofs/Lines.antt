@@ -5,7 +5,7 @@ use mathlib.Core.List.{List, [], _∷_, append-nil}
 use mathlib.Core.Bool.{Bool, true, false}
 use native.Mathlib.Omega.{arith}
 use lib.Dec.{eqb}
-use lib.ListN.{length, take, drop, replicate, length-drop, drop-of-length-le}
+use lib.ListN.{length, take, drop, replicate, length-drop, length-take, drop-of-length-le}
 use lib.Seq.{sets, drop-drop}
 use Rattle.text.specs.Choice.{pick}
 use Rattle.text.specs.Piece.{bytes}
@@ -13,7 +13,7 @@ use Rattle.text.specs.Read.{misfit, got, andThen, readText, readGap, whole}
 use Rattle.text.specs.Names.{inClass, readCount}
 use Rattle.text.specs.Held.{Held, none, fits, readWord}
 use Rattle.text.specs.declared.Found.{Found}
-use Rattle.text.specs.Laws.Base.{no-misfit, guard-got, true-false}
+use Rattle.text.specs.Laws.Base.{no-misfit, guard-got}
 use Rattle.text.specs.Laws.Held.{held-text}
 use Rattle.text.specs.Laws.Put.{over-zeros}
 use Rattle.heading.specs.Letters.{readLetters}
@@ -63,21 +63,20 @@ sw-at (x ∷ y ∷ m) {k} e = let z : got tt m ≡ got tt k = guard-got (eqb 87 
 
 module _ (m : List ℕ) (w : Found) (h : Held m (readWord (bytes "SW") 0 m) w) where
   pub no-sw : w .fits ≡ false → Designated m none
-  no-sw t = record { within = omega arith; long = λ f. true-false (sym f); says = rw (held-text (bytes "SW") m 0 h, t) }
+  no-sw t = record { within = omega arith; says = rw (held-text (bytes "SW") m 0 h, t) }
 
   module _ (t : w .fits ≡ true) where
     stands : readText (bytes "SW") m ≡ got tt (drop 2 m)
     stands = let e = held-text (bytes "SW") m 0 h ∙ ap (λ (b : Bool). pick b (got tt (drop (w .next) m)) misfit) t in e ∙ ap (got tt) (sw-at m e)
 
     pub no-region : fits (readCount (inClass 0) 2 (drop 2 m)) ≡ false → Designated m none
-    no-region f = record { within = omega arith; long = λ f. true-false (sym f); says = rw (stands, letters-off 2 (drop 2 m) f) }
+    no-region f = record { within = omega arith; says = rw (stands, letters-off 2 (drop 2 m) f) }
 
     pub region : fits (readCount (inClass 0) 2 (drop 2 m)) ≡ true → {r : Found} → Held m (readSerial (drop 4 m)) r → Designated m r
     region f {r} n =
         let s = letters-stand 2 (drop 2 m) f in
         record {
           within = n .within;
-          long = λ _. omega (arith, s .long, length-drop 2 m);
           says = rw (stands, s .is, drop-drop 2 2 m, n .says) (go (r .fits));
         }
       where
@@ -119,6 +118,10 @@ module _ {m : List ℕ} {r : Found} (h : Designated m r) (t : r .fits ≡ true) 
 
   pub region-long : length (take 2 (drop 2 m)) ≡ 2
   region-long = letters-long 2 (take 2 (drop 2 m)) (designator-laws .sound {m = m} designated .0 .0)
+
+  -- so that they lie within the line
+  pub region-inside : 4 ≤ length m
+  region-inside = omega (arith, region-long, length-take 2 (drop 2 m), length-drop 2 m)
 
   pub serial-fits : r .value < 10 ^ 4
   serial-fits = serial-low (r .value) (designator-laws .sound {m = m} designated .0 .1)

@@ -61,8 +61,11 @@ abbrev pub listAnswer : Got (List (List ℕ)) → AddressList
 listAnswer misfit = record { count = 0; letters = zeros addressRoom }
 listAnswer (got as′ r) = record { count = length as′; letters = pad addressRoom 0 (flat as′) }
 
--- the answer r is the reading of `SW`, two letters and the serial: the letters stand at 2
+-- the two letters behind `SW`
+abbrev pub regionAt : List ℕ → List ℕ
+regionAt m = take 2 (drop 2 m)
+
+-- the answer r is the reading of `SW`, these letters and the serial
 pub record Designated (m : List ℕ) (r : Found) : Type 0 where
   pub within : r .next ≤ length m
-  pub long : r .fits ≡ true → 4 ≤ length m
-  pub says : readDesignator m ≡ pick (r .fits) (got (take 2 (drop 2 m), r .value) (drop (r .next) m)) misfit
+  pub says : readDesignator m ≡ pick (r .fits) (got (regionAt m, r .value) (drop (r .next) m)) misfit

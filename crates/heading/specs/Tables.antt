@@ -2,11 +2,12 @@
 use Prim.Native.Nat.{ℕ}
 use Prim.Native.String.{String}
 use mathlib.Core.Path.{_≡_, refl}
-use mathlib.Core.List.{List, [], _∷_, map}
+use mathlib.Core.List.{List, [], _∷_, _++_, map}
 use mathlib.Core.Bool.{Bool, true, false}
+use lib.ListN.{replicate}
 use Rattle.text.specs.Choice.{_and_}
 use Rattle.text.specs.Piece.{bytes, spell, canonical}
-use Rattle.text.specs.Read.{Got, got, skip, readText, readMany, whole}
+use Rattle.text.specs.Read.{Got, misfit, got, skip, readText, readMany, whole}
 use Rattle.text.specs.Names.{readCount, readName}
 use Rattle.text.specs.Numbers.{digits, readDigits}
 use Rattle.text.specs.Arrays.{slots, pastSlots, flat}
@@ -15,7 +16,8 @@ use Rattle.runway.specs.Time.{isShortMonth, daysOf, realDay, realClock, realTim
 use Rattle.heading.specs.Letters.{isLetters}
 use Rattle.heading.specs.Addresses.{addressesOf, makeAddresses, addressesPieces, readAddresses, validAddresses}
 use Rattle.heading.specs.Filing.{realFiling, filingPieces, readFiling, validFiling}
-use Rattle.heading.specs.Heading.{Heading, headingPieces, readHeading, validTitle, validHeading, serialPieces, readSerialLine, aerodromePieces, readAerodrome}
+use Rattle.heading.specs.Heading.{Heading, readDesignator, headingPieces, readHeading, validTitle, validHeading, serialPieces, readSerialLine, aerodromePieces, readAerodrome}
+use Rattle.heading.specs.Answers.{addressesAnswer, filingAnswer, headingAnswer, aerodromeAnswer, listAnswer, regionAt}
 
 -- which of some lines are taken, each read whole
 abbrev taken : {A : Type 0} → (List ℕ → Got A) → List String → List Bool
@@ -147,4 +149,35 @@ last-lines = record {
   aerodromes = refl;
   aerodrome = refl;
   aerodrome-text = refl;
+}
+
+-- "blank means all zero": what is answered for a line that does not fit, and for one that does
+pub record Answers : Type 0 where
+  pub no-addresses : addressesAnswer misfit ≡ record { fits = false; addresses = record { priority = 0; count = 0; letters = replicate 64 0 } }
+  pub no-filing : filingAnswer misfit ≡ record { fits = false; filing = record { time = 0; originator = replicate 8 0 } }
+  pub no-heading : headingAnswer misfit ≡ record { fits = false; title = record { region = 0 ∷ 0 ∷ []; serial = 0; aerodrome = 0 ∷ 0 ∷ 0 ∷ 0 ∷ [] }; time = 0 }
+  pub no-aerodrome : aerodromeAnswer misfit ≡ record { fits = false; aerodrome = 0 ∷ 0 ∷ 0 ∷ 0 ∷ [] }
+  pub no-list : listAnswer misfit ≡ record { count = 0; letters = replicate 64 0 }
+  pub addresses : addressesAnswer (got (makeAddresses 2 (bytes "XQAAYNYX" ∷ [])) []) ≡ record { fits = true; addresses = makeAddresses 2 (bytes "XQAAYNYX" ∷ []) }
+  pub filing : filingAnswer (got (record { time = 10645; originator = bytes "XQAAYNYX" }) []) ≡ record { fits = true; filing = record { time = 10645; originator = bytes "XQAAYNYX" } }
+  pub heading : headingAnswer (got example []) ≡ record { fits = true; title = example .title; time = 1120640 }
+  pub aerodrome : aerodromeAnswer (got (bytes "XQAA") []) ≡ record { fits = true; aerodrome = bytes "XQAA" }
+  pub list : listAnswer (got (bytes "XQAAYNYX" ∷ bytes "XQBBYOYX" ∷ []) []) ≡ record { count = 2; letters = bytes "XQAAYNYXXQBBYOYX" ++ replicate 48 0 }
+  -- the letters stand behind `SW`
+  pub designated : readDesignator (bytes "SWXQ0007 XQAA") ≡ got (regionAt (bytes "SWXQ0007 XQAA"), 7) (bytes " XQAA")
+
+pub answers : Answers
+unfolding _and_ spell skip readText readCount readDigits flat
+answers = record {
+  no-addresses = refl;
+  no-filing = refl;
+  no-heading = refl;
+  no-aerodrome = refl;
+  no-list = refl;
+  addresses = refl;
+  filing = refl;
+  heading = refl;
+  aerodrome = refl;
+  list = refl;
+  designated = refl;
 }

@@ -141,6 +141,10 @@ plain-edges : (language ".." ≡ true) × (language "A." ≡ true) × (language 
 unfolding isMark validLanguage lastIs _and_
 plain-edges = (refl, refl, refl, refl, refl, refl, refl, refl, refl, refl)
 
+last-bytes : map (lastIs 46) ([] ∷ bytes "." ∷ bytes "A" ∷ bytes ".A" ∷ bytes "A." ∷ []) ≡ false ∷ true ∷ false ∷ false ∷ true ∷ []
+unfolding lastIs
+last-bytes = refl
+
 plain-lengths : (validLanguage (replicate 399 65 ++ bytes ".") ≡ true) × (validLanguage (replicate 400 65 ++ bytes ".") ≡ false)
 unfolding isMark validLanguage lastIs _and_
 plain-lengths = (refl, refl)

@@ -6,7 +6,8 @@ use mathlib.Core.List.{List, [], _∷_, _++_, map}
 use lib.ListN.{replicate}
 use Rattle.text.specs.Choice.{_and_}
 use Rattle.text.specs.Arrays.{slots, flat}
-use Rattle.text.specs.Lines.{lines, closed, front, ended}
+use Rattle.text.specs.Lines.{lines, closed, ended}
+use Rattle.text.specs.Lines as Lines
 use Rattle.text.specs.Names.{isMark, readCount, run, past, readName}
 use Rattle.text.specs.Numbers.{readDigits, digits}
 use Rattle.text.specs.Piece.{bytes, spell}
@@ -32,6 +33,10 @@ use Rattle.notice.specs.Record.{blankRecord}
 use Rattle.notice.specs.Notice.{noticeLines, notice, noticeText}
 use Rattle.notice.specs.Reading.{agreeing, readNotice, reading}
 use Rattle.body.specs.Rows as Rows
+use Rattle.body.specs.declared.Rows.{Rows}
+use Rattle.front.specs.declared.Front.{Front}
+use Rattle.front.specs.Front.{blankFront}
+use Rattle.notice.specs.Below.{agreement, lastRefusal}
 
 -- lines, each with its LF
 abbrev pub message : List String → List ℕ
@@ -123,6 +128,32 @@ pub record Examples : Type 0 where
       ∷ headed "SWXQ0007 XQAA 01120610" "(SNOWTAM 0007" "XQAA"
       ∷ []) ≡ 0 ∷ 10 ∷ 11 ∷ 12 ∷ []
 
+-- parts that fit, each by itself: a front with these serials, aerodrome and time, over a row of 01120640
+abbrev front : ℕ → ℕ → String → ℕ → Front
+front first second aerodrome time = record {
+  addresses = blankFront .addresses;
+  filing = blankFront .filing;
+  title = record { region = bytes "XQ"; serial = first; aerodrome = bytes "XQAA" };
+  time = time;
+  serial = second;
+  aerodrome = bytes aerodrome;
+}
+
+abbrev one : Rows
+one = Rows.makeRows (record { time = 1120640; number = 7; side = 0; thirds = blankRow .thirds; width = 0 } ∷ [])
+
+pub record Parts : Type 0 where
+  agree : agreement (front 7 7 "XQAA" 1120640) one ≡ 0
+  serials : map (λ n. agreement (front 7 n "XQBB" 1120610) one) (6 ∷ 8 ∷ []) ≡ 10 ∷ 10 ∷ []
+  aerodromes : agreement (front 7 7 "XQBB" 1120610) one ≡ 11
+  times : map (λ t. agreement (front 7 7 "XQAA" t) one) (1120639 ∷ 1120641 ∷ []) ≡ 12 ∷ 12 ∷ []
+  -- the refusal of what stands below the rows comes first
+  first : map (lastRefusal (front 7 8 "XQAA" 1120640) one) (0 ∷ 1 ∷ 9 ∷ []) ≡ 10 ∷ 1 ∷ 9 ∷ []
+
+pub parts : Parts
+unfolding _and_ latestOf latestFrom latest later agreement lastRefusal
+parts = record { agree = refl; serials = refl; aerodromes = refl; times = refl; first = refl }
+
 pub examples : Examples
-unfolding slots flat _and_ lines closed front ended run past isMark readCount readName readDigits digits spell skip readText readMany validRunway isShortMonth daysOf realDay realClock realTime later isContaminant isDeep isCoverage validCoverage leastDepth isReported validDepth validThird measurePieces readMeasure readCoverage readDescription thirdPieces readThird highest readGroup readFull readShort readWidth readRow threeThat validRow isBare isSix isDry isShort middlePieces widthPieces rowPieces addressesPieces readAddresses realFiling filingPieces readFiling headingPieces readHeading serialPieces readSerialLine aerodromePieces readAerodrome isLetters sameRunway otherApron mayRepeat mayFollow inOrder awarenessPieces readAwareness wholeAwareness onRunway onTaxiways runwayFits amountFits edgeFits countFits isTaxiway validSlot isNew slotsFit taxiwaysFit nameFits numbersFit validItem itemText itemPieces lastIs validLanguage wholeLanguage readLength readBank readNeither readDetail readTaxiway readTaxiways readApron readRunwayForm readTaxiForm readApronForm readBareForm readForm readBody readItem isAmong newRunways latestOf latestFrom latest readRows noticeLines notice noticeText agreeing readNotice reading Rows.sameRunway
+unfolding slots flat _and_ lines closed Lines.front ended run past isMark readCount readName readDigits digits spell skip readText readMany validRunway isShortMonth daysOf realDay realClock realTime later isContaminant isDeep isCoverage validCoverage leastDepth isReported validDepth validThird measurePieces readMeasure readCoverage readDescription thirdPieces readThird highest readGroup readFull readShort readWidth readRow threeThat validRow isBare isSix isDry isShort middlePieces widthPieces rowPieces addressesPieces readAddresses realFiling filingPieces readFiling headingPieces readHeading serialPieces readSerialLine aerodromePieces readAerodrome isLetters sameRunway otherApron mayRepeat mayFollow inOrder awarenessPieces readAwareness wholeAwareness onRunway onTaxiways runwayFits amountFits edgeFits countFits isTaxiway validSlot isNew slotsFit taxiwaysFit nameFits numbersFit validItem itemText itemPieces lastIs validLanguage wholeLanguage readLength readBank readNeither readDetail readTaxiway readTaxiways readApron readRunwayForm readTaxiForm readApronForm readBareForm readForm readBody readItem isAmong newRunways latestOf latestFrom latest readRows noticeLines notice noticeText agreeing readNotice reading Rows.sameRunway
 examples = record { accepted = refl; rows = refl; items = refl; rewritten = refl; missing = refl; blank = refl; body = refl; remarks = refl; ninth = refl; differing = refl }

@@ -21,19 +21,11 @@ use Rattle.phengaryl.specs.Narrow.{narrow, narrowThird}
 -- a number below 255, before or after, was not changed
 narrow-below : (x : ℕ) → x ≤ 254 → narrow x ≡ x
 unfolding narrow
-narrow-below x h = go (leb x 255) refl
-  where
-    go : (t : Bool) → leb x 255 ≡ t → pick t x 255 ≡ x
-    go true e = refl
-    go false e = let k = leb-false x 255 e in absurd (omega arith)
+narrow-below x h = omega arith
 
 narrowed-below : (x : ℕ) → narrow x ≤ 254 → narrow x ≡ x
 unfolding narrow
-narrowed-below x h = go (leb x 255) h
-  where
-    go : (t : Bool) → pick t x 255 ≤ 254 → pick t x 255 ≡ x
-    go true k = refl
-    go false k = absurd (omega arith)
+narrowed-below x h = omega arith
 
 -- what a valid third holds is below 255
 record Small (t : Third) : Type 0 where

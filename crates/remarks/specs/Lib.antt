@@ -1,2 +1,3 @@
--- What the promises cite.
+-- What the promises cite; the values are pinned in Tables.
 pub mod Held
+pub mod Tables

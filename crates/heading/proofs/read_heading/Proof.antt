@@ -8,7 +8,7 @@ use borrow.Author.Needs.{needs}
 use Rattle.text.specs.Laws.Held.{misfit-of, got-of, part-all}
 use Rattle.heading.specs.Answers.{headingAnswer}
 use Rattle.heading.proofs.Groups.{span-off, span-on, gap-long}
-use Rattle.heading.proofs.Lines.{array-is, rest-none, designated, undesignated, region-long, serial-fits, no-designator, no-aerodrome, no-observed, heading-left, heading-whole}
+use Rattle.heading.proofs.Lines.{array-is, rest-none, designated, undesignated, region-long, region-inside, serial-fits, no-designator, no-aerodrome, no-observed, heading-left, heading-whole}
 use Rattle.heading.proofs.read_heading.Statement.{statement}
 use Rattle.heading.proofs.read_heading.Tie as tie
 
@@ -101,7 +101,7 @@ part-two-end : tie.Need-part-two-end
 part-two-end c =
     let b12 = c .before .before .before .before .before .before .before .before .before .before .before .before in
     let b14 = b12 .before .before in
-    let k = b14 .designator .ensures .long (not-false _ (b12 .if1 .left)) in
+    let k = region-inside (b14 .designator .ensures) (not-false _ (b12 .if1 .left)) in
     omega arith
 
 two-requires : tie.Need-two-requires

@@ -1,4 +1,4 @@
-use Rattle.text.specs.Laws.Tests.{tests}
+use native.Mathlib.Omega.{arith}
 use Rattle.phengaryl.specs.Narrow.{narrow}
 use borrow.Author.Needs.{needs}
 use Rattle.phengaryl.proofs.narrow.Statement.{statement}
@@ -9,11 +9,11 @@ cast-result c = search needs
 
 returns : tie.Need-returns
 unfolding narrow
-returns c = search tests
+returns c = omega arith
 
 returns-2 : tie.Need-returns-2
 unfolding narrow
-returns-2 c = search tests
+returns-2 c = omega arith
 
 pub narrow-spec : {M : Type 1} → statement M
 narrow-spec = tie.close (tie.spec cast-result returns returns-2)

@@ -1,0 +1,62 @@
+-- Lines 1 to 5 as they are filled and put, evaluated.
+use Prim.Native.Nat.{ℕ}
+use Prim.Native.String.{String}
+use mathlib.Core.Path.{_≡_, refl}
+use mathlib.Core.List.{List, [], _∷_, _++_, map}
+use mathlib.Core.Bool.{true, false}
+use lib.Dec.{lit≤}
+use lib.ListN.{replicate}
+use Rattle.text.specs.Choice.{_and_}
+use Rattle.text.specs.Piece.{bytes, spell}
+use Rattle.text.specs.Read.{Got, misfit, got, skip, readText, readMany}
+use Rattle.text.specs.Names.{readCount, readName}
+use Rattle.text.specs.Numbers.{digits, readDigits}
+use Rattle.text.specs.Arrays.{slots, pastSlots, flat}
+use Rattle.text.specs.Lines.{lines}
+use Rattle.text.specs.Out.{Out, refuse, taken}
+use Rattle.runway.specs.Time.{isShortMonth, daysOf, realDay, realClock, realTime}
+use Rattle.heading.specs.declared.Title.{Title}
+use Rattle.heading.specs.Letters.{isLetters}
+use Rattle.heading.specs.Addresses.{makeAddresses, readAddresses, addressesPieces}
+use Rattle.heading.specs.Filing.{realFiling, readFiling, filingPieces}
+use Rattle.heading.specs.Heading.{readHeading, readSerialLine, readAerodrome, headingPieces, serialPieces, aerodromePieces}
+use Rattle.front.specs.declared.Front.{Front}
+use Rattle.front.specs.Front.{blankFront, withAddresses, withFiling, withHeading, withSerial, withAerodrome, frontCount, fillLine, lineRefusal, nextLine, fillLines, noFront, frontAnswer, FrontHeld, frontText}
+
+abbrev title : Title
+title = record { region = bytes "XQ"; serial = 7; aerodrome = bytes "XQAA" }
+
+-- the front of the message below
+abbrev full : Front
+full = record { addresses = makeAddresses 1 (bytes "XQAAYNYX" ∷ []); filing = record { time = 120645; originator = bytes "XQAAYNYX" }; title = title; time = 1120640; serial = 7; aerodrome = bytes "XQAA" }
+
+abbrev message : List ℕ
+message = bytes "GG XQAAYNYX" ++ (10 ∷ bytes "120645 XQAAYNYX") ++ (10 ∷ bytes "SWXQ0007 XQAA 01120640") ++ (10 ∷ bytes "(SNOWTAM 0007") ++ (10 ∷ bytes "XQAA")
+
+-- a line by its place, read into a blank front
+abbrev line : ℕ → String → Got Front
+line k s = fillLine k blankFront (bytes s)
+
+-- so many lines, and what is left
+abbrev read : List ℕ → Out (Front × List (List ℕ))
+read m = fillLines frontCount 0 blankFront (lines m)
+
+pub record Fronts : Type 0 where
+  blank : blankFront ≡ record { addresses = record { priority = 0; count = 0; letters = replicate 64 0 }; filing = record { time = 0; originator = replicate 8 0 }; title = record { region = 0 ∷ 0 ∷ []; serial = 0; aerodrome = replicate 4 0 }; time = 0; serial = 0; aerodrome = replicate 4 0 }
+  first : line 0 "GG XQAAYNYX" ≡ got (withAddresses blankFront (full .addresses)) []
+  second : line 1 "120645 XQAAYNYX" ≡ got (withFiling blankFront (full .filing)) []
+  third : line 2 "SWXQ0007 XQAA 01120640" ≡ got (withHeading blankFront (record { title = title; time = 1120640 })) []
+  fourth : line 3 "(SNOWTAM 0007" ≡ got (withSerial blankFront 7) []
+  fifth : line 4 "XQAA" ≡ got (withAerodrome blankFront (bytes "XQAA")) []
+  -- "2 for lines 1 and 2, 3 for line 3, 4 for lines 4 and 5"
+  refusals : map lineRefusal (0 ∷ 1 ∷ 2 ∷ 3 ∷ 4 ∷ []) ≡ 2 ∷ 2 ∷ 3 ∷ 4 ∷ 4 ∷ []
+  all-lines : read (message ++ (10 ∷ bytes "0112")) ≡ taken (full, bytes "0112" ∷ [])
+  missing : map read ([] ∷ bytes "GG XQAAYNYX" ∷ (bytes "GG XQAAYNYX" ++ (10 ∷ bytes "120645 XQAAYNYX")) ∷ []) ≡ refuse 2 ∷ refuse 2 ∷ refuse 3 ∷ []
+  answered : frontAnswer 0 full 79 ≡ record { refusal = 0; front = full; next = 79 }
+  refused : map (λ n. frontAnswer n full 79) (1 ∷ 4 ∷ []) ≡ record { refusal = 1; front = blankFront; next = 0 } ∷ noFront 4 ∷ []
+  held : FrontHeld [] (noFront 2)
+  written : frontText (full .addresses) (full .filing) title 1120640 ≡ message
+
+pub fronts : Fronts
+unfolding _and_ spell skip readText readMany readCount readName readDigits digits slots pastSlots flat lines isShortMonth daysOf realDay realClock realTime isLetters readAddresses addressesPieces realFiling readFiling filingPieces readHeading readSerialLine readAerodrome headingPieces serialPieces aerodromePieces fillLine lineRefusal nextLine fillLines frontAnswer
+fronts = record { blank = refl; first = refl; second = refl; third = refl; fourth = refl; fifth = refl; refusals = refl; all-lines = refl; missing = refl; answered = refl; refused = refl; held = record { within = lit≤ tt; says = refl; place = refl; blank = refl }; written = refl }
