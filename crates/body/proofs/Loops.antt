@@ -1,10 +1,10 @@
 -- One law for each case of a step of the loops over the rows.
-use Prim.Native.Nat.{ℕ, suc, _+_, _-_, _<_, _≤_}
+use Prim.Native.Nat.{ℕ, suc, _+_, _-_, _<_, _≤_, min}
 use mathlib.Core.Path.{_≡_, sym, _∙_, ap}
 use mathlib.Core.List.{List, [], _∷_, _++_, map, map-append, append-nil}
 use mathlib.Core.Bool.{Bool, true, false, not}
 use lib.ListN.{length, take, drop, getD, length-take, drop-of-length-le}
-use lib.Seq.{drop-cons, getD-take, take-suc, take-all}
+use lib.Seq.{drop-cons, getD-take, take-suc}
 use native.Mathlib.Numerals.{add-one}
 use native.Mathlib.Omega.{arith}
 use Rattle.text.specs.Choice.{_and_, all}
@@ -35,12 +35,9 @@ module _ {A : Type 0} (d : A) (l : List A) (i : ℕ) where
       let e : drop i (take n l) ≡ getD (take n l) i d ∷ drop (i + 1) (take n l) = rw add-one (drop-cons (take n l) i d f) in
       e ∙ ap (λ (a : A). a ∷ drop (i + 1) (take n l)) (getD-take n l i d h)
 
-module _ {A : Type 0} (l : List A) (n i : ℕ) where
-  pub none-used : n ≤ i → drop i (take n l) ≡ []
-  none-used h = let k : length (take n l) ≤ i = rw length-take (omega arith) in drop-of-length-le (take n l) k
-
-  pub none-left : length l ≤ i → drop i (take n l) ≡ []
-  none-left h = let k : length (take n l) ≤ i = rw length-take (omega arith) in drop-of-length-le (take n l) k
+-- nothing is left behind the first n
+pub none-left : {A : Type 0} (l : List A) (n i : ℕ) → min n (length l) ≤ i → drop i (take n l) ≡ []
+none-left l n i h = let k : length (take n l) ≤ i = rw length-take h in drop-of-length-le (take n l) k
 
 -- what the code finds at a place outside an array of rows
 abbrev pub outside : Row
@@ -108,17 +105,11 @@ unfolding latestFrom
 latest-none t e = ap (latestFrom t) e
 
 -- the rows' lines, one more at a time
-module _ (rows : List Row) (n i : ℕ) where
-  pub text-next : i < n → i < length rows → under (map rowPieces (take (i + 1) (take n rows))) ≡ under (map rowPieces (take i (take n rows))) ++ ((10 ∷ []) ++ canonical (rowPieces (getD rows i outside)))
-  unfolding under
-  text-next h k =
-      let f : i < length (take n rows) = rw length-take (omega arith) in
-      let r = getD rows i outside in
-      let e : take (i + 1) (take n rows) ≡ take i (take n rows) ++ (r ∷ []) = rw (add-one, ← (getD-take n rows i outside h)) (take-suc (take n rows) i outside f) in
-      rw (e, map-append, under-append, append-nil)
-
-  pub text-used : n ≤ i → under (map rowPieces (take i (take n rows))) ≡ under (map rowPieces (take n rows))
-  text-used h = let k : length (take n rows) ≤ i = rw length-take (omega arith) in rw (take-all i (take n rows) k)
-
-  pub text-left : length rows ≤ i → under (map rowPieces (take i (take n rows))) ≡ under (map rowPieces (take n rows))
-  text-left h = let k : length (take n rows) ≤ i = rw length-take (omega arith) in rw (take-all i (take n rows) k)
+pub text-next : (rows : List Row) (n i : ℕ) → i < n → i < length rows
+    → under (map rowPieces (take (i + 1) (take n rows))) ≡ under (map rowPieces (take i (take n rows))) ++ ((10 ∷ []) ++ canonical (rowPieces (getD rows i outside)))
+unfolding under
+text-next rows n i h k =
+    let f : i < length (take n rows) = rw length-take (omega arith) in
+    let r = getD rows i outside in
+    let e : take (i + 1) (take n rows) ≡ take i (take n rows) ++ (r ∷ []) = rw (add-one, ← (getD-take n rows i outside h)) (take-suc (take n rows) i outside f) in
+    rw (e, map-append, under-append, append-nil)

@@ -7,7 +7,7 @@ use native.Mathlib.Numerals.{add-one}
 use native.Mathlib.Omega.{arith}
 use lib.Dec.{eqb, ltb}
 use lib.ListN.{length, take, drop, set, length-append, length-take, length-drop, drop-of-length-le}
-use lib.Seq.{drop-drop, length-take-le, take-suc-set}
+use lib.Seq.{length-take-le, take-suc-set}
 use borrow.Author.Tests.{ne-eqb, eq-eqb, ltb-true, ltb-false}
 use Rattle.text.specs.Choice.{pick, isEmpty}
 use Rattle.text.specs.Read.{Got, misfit, got}
@@ -16,8 +16,7 @@ use Rattle.text.specs.declared.Line.{Line}
 use Rattle.text.specs.Held.{firstLine}
 use Rattle.text.specs.Laws.Base.{true-false}
 use Rattle.text.specs.Laws.Arrays.{pad-length, pad-more}
-use Rattle.text.specs.Laws.Held.{part-all}
-use Rattle.text.specs.Laws.Lines.{first-lines, line-within, size-within, size-more}
+use Rattle.text.specs.Laws.Lines.{first-lines, line-inside, line-place, line-lines}
 use Rattle.row.specs.declared.Row.{Row}
 use Rattle.row.specs.Row.{blankRow}
 use Rattle.row.specs.Reading.{wholeRow, answer}
@@ -114,19 +113,16 @@ module _ {m : List ℕ} {rows : List Row} {count at : ℕ} (s : SoFar m rows cou
     abbrev rest : List (List ℕ)
     rest = lines (drop next m)
 
-    -- it is the first line of what is left, and what is read
-    line-is : line ≡ firstLine (drop at m)
-    line-is = q ∙ ap firstLine (part-all at m)
+    -- it is what is read
+    first : readRows mostRows [] (lines m) ≡ readRows (mostRows - count) rs (text ∷ rest)
+    first = s .left ∙ ap (readRows (mostRows - count) rs) (line-lines m at h q)
 
     next-lies : next ≡ linesSize (suc count) m
-    next-lies = let w = size-more count m in rw (line-is, s .lies, w)
-
-    first : readRows mostRows [] (lines m) ≡ readRows (mostRows - count) rs (text ∷ rest)
-    first = s .left ∙ ap (readRows (mostRows - count) rs) (first-lines (drop at m) (omega (arith, length-drop at m))) ∙ rw (line-is, drop-drop)
+    next-lies = line-place m at h q count (s .lies)
 
     -- it lies within the message
     pub within : (at + line .size ≤ length m) × (next ≤ length m)
-    within = let l = length-drop at m in let a = size-within (drop at m) in let b = line-within (drop at m) in rw line-is (omega arith, omega arith)
+    within = line-inside m at h q
 
     -- it is empty
     pub blank-line : line .size ≡ 0 → RowsHeld m (rowsAnswer (pick (eqb count 0) 4 0) (held count rows) false next)
@@ -139,7 +135,7 @@ module _ {m : List ℕ} {rows : List Row} {count at : ℕ} (s : SoFar m rows cou
 
     module _ (z : line .size ≡ 0 → ⊥) where
       some-text : isEmpty text ≡ false
-      some-text = go text (length-take-le (line .size) (drop at m) (rw line-is (size-within (drop at m))))
+      some-text = go text (length-take-le (line .size) (drop at m) (omega (arith, length-drop at m, within .0)))
         where
           go : (l : List ℕ) → length l ≡ line .size → isEmpty l ≡ false
           go [] e = absurd (z (sym e))

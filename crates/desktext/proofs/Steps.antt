@@ -4,16 +4,15 @@ use mathlib.Core.Path.{_≡_, refl, sym, subst, _∙_, ap}
 use mathlib.Core.List.{List, [], _∷_, _++_}
 use native.Mathlib.Numerals.{add-one}
 use native.Mathlib.Omega.{arith}
-use lib.ListN.{length, take, drop, drop-of-length-le, length-drop}
-use lib.Seq.{drop-drop}
+use lib.ListN.{length, take, drop, drop-of-length-le}
 use borrow.Author.Tests.{eq-eqb, ne-eqb}
 use Rattle.text.specs.declared.Line.{Line}
 use Rattle.text.specs.Held.{firstLine}
-use Rattle.text.specs.Lines.{lines, lineSize, lineStep}
+use Rattle.text.specs.Lines.{lines}
 use Rattle.text.specs.Piece.{bytes}
 use Rattle.text.specs.Put.{Put}
 use Rattle.text.specs.Laws.Held.{part-all}
-use Rattle.text.specs.Laws.Lines.{first-lines, line-within}
+use Rattle.text.specs.Laws.Lines.{first-lines, line-inside, line-lines}
 use Rattle.text.specs.Laws.Put.{more}
 use Rattle.board.specs.declared.Board.{Board}
 use Rattle.board.specs.declared.Answer.{Answer}
@@ -30,14 +29,7 @@ rows-more i b = rw add-one
 
 -- the report that the first line is
 pub taken-is : (b : Board) (m : List ℕ) (l : Line) → l ≡ firstLine m → (a : Answer) → a ≡ reportLine b (take (l .size) m) → record { answer = a; next = l .next } ≡ taken b m
-taken-is b m l e a f =
-    let s = f ∙ ap (λ (k : Line). reportLine b (take (k .size) m)) e in
-    let n = ap (λ (k : Line). k .next) e in
-    λ i. record { answer = s i; next = n i }
-
--- the next line starts within the text
-pub next-within : (m : List ℕ) (l : Line) → l ≡ firstLine m → l .next ≤ length m
-next-within m l e = let n = ap (λ (k : Line). k .next) e in let w = line-within m in omega arith
+taken-is b m l e a f = rw (f, e)
 
 -- what is left, put from here, makes the whole
 abbrev pub Goes : ℕ → List ℕ → List ℕ → ℕ → List ℕ → List ℕ → Type 0
@@ -48,17 +40,11 @@ module _ (m : List ℕ) (i : ℕ) (low : i < length m) (b : Board) (s : Taken) (
   abbrev rest : List ℕ
   rest = drop i m
 
-  here : s ≡ taken b rest
-  here = e ∙ ap (taken b) (part-all i m)
-
-  next-is : s .next ≡ lineStep rest
-  next-is = ap (λ (t : Taken). t .next) here
-
   pub stays : i + s .next ≤ length m
-  stays = let w = line-within rest in omega (arith, length-drop i m, next-is)
+  stays = rw e (line-inside m i low refl .1)
 
-  cut : lines rest ≡ take (lineSize rest) rest ∷ lines (drop (i + s .next) m)
-  cut = first-lines rest (omega (arith, length-drop i m)) ∙ ap (λ (k : List ℕ). take (lineSize rest) rest ∷ lines k) (ap (λ (n : ℕ). drop n rest) (sym next-is) ∙ drop-drop (s .next) i m)
+  cut : lines rest ≡ take (firstLine (take (length m - i) rest) .size) rest ∷ lines (drop (i + s .next) m)
+  cut = rw e (line-lines m i low refl)
 
   -- there is one line less
   pub fewer : length (lines (drop (i + s .next) m)) < length (lines rest)
@@ -67,7 +53,7 @@ module _ (m : List ℕ) (i : ℕ) (low : i < length m) (b : Board) (s : Taken) (
   -- its answer, and then the text of what is left
   pub answered : answersText b (lines rest) ≡ answerLine (s .answer .refusal) ++ answersText (s .answer .board) (lines (drop (i + s .next) m))
   unfolding answersText
-  answered = ap (answersText b) cut ∙ ap (λ (t : Taken). answerLine (t .answer .refusal) ++ answersText (t .answer .board) (lines (drop (i + s .next) m))) (sym here)
+  answered = ap (answersText b) cut ∙ rw (e, part-all)
 
   pub again : {at r p : ℕ} {whole first now′ then′ : List ℕ} → Goes at whole first r (answersText b (lines rest)) now′ → Put r (answerLine (s .answer .refusal)) now′ then′ p
       → Goes at whole first p (answersText (s .answer .board) (lines (drop (i + s .next) m))) then′
@@ -88,8 +74,7 @@ nothing-opened (x ∷ m) h = absurd (omega arith)
 module _ (m : List ℕ) (some : length m ≡ 0 → ⊥) (l : Line) (e : l ≡ firstLine m) (a : Answer) (f : a ≡ openingLine (take (l .size) m)) where
   begun : deskText m ≡ openedText a (lines (drop (l .next) m))
   unfolding deskText
-  begun = ap linesText (first-lines m (omega arith)) ∙ ap (λ (k : Line). openedText (openingLine (take (k .size) m)) (lines (drop (k .next) m))) (sym e)
-      ∙ ap (λ (k : Answer). openedText k (lines (drop (l .next) m))) (sym f)
+  begun = ap linesText (first-lines m (omega arith)) ∙ rw (f, e)
 
   pub not-opened : (a .refusal ≡ 0 → ⊥) → deskText m ≡ refusedText
   not-opened h = begun ∙ rw (ne-eqb (a .refusal) 0 h)

@@ -1,22 +1,20 @@
 -- The front, line by line: what each answer says, and one step of the loop.
 use Prim.Native.Nat.{ℕ, suc, _+_, _-_, _<_, _≤_}
-use mathlib.Core.Path.{_≡_, refl, sym, subst, _∙_, ap}
+use mathlib.Core.Path.{_≡_, refl, sym, _∙_, ap}
 use mathlib.Core.List.{List, [], _∷_}
 use mathlib.Core.Bool.{Bool, true, false}
 use native.Mathlib.Numerals.{add-one}
 use native.Mathlib.Omega.{arith}
 use lib.Dec.{eqb, ltb}
 use borrow.Author.Tests.{ne-eqb}
-use lib.ListN.{length, take, drop, length-drop, drop-of-length-le}
-use lib.Seq.{drop-drop}
+use lib.ListN.{length, take, drop, drop-of-length-le}
 use Rattle.text.specs.Choice.{pick}
 use Rattle.text.specs.Read.{Got, misfit, got, andThen, whole}
-use Rattle.text.specs.Lines.{lines, lineSize, lineStep, linesSize}
+use Rattle.text.specs.Lines.{lines, linesSize}
 use Rattle.text.specs.Held.{Held, firstLine}
 use Rattle.text.specs.declared.Line.{Line}
 use Rattle.text.specs.declared.Found.{Found}
-use Rattle.text.specs.Laws.Lines.{whole-got, first-lines, line-within, size-within, size-more}
-use Rattle.text.specs.Laws.Held.{part-all}
+use Rattle.text.specs.Laws.Lines.{whole-got, line-lines}
 use Rattle.heading.specs.declared.Addresses.{Addresses}
 use Rattle.heading.specs.declared.Filing.{Filing}
 use Rattle.heading.specs.declared.AddressesRead.{AddressesRead}
@@ -27,7 +25,7 @@ use Rattle.heading.specs.Addresses.{readAddresses}
 use Rattle.heading.specs.Filing.{readFiling}
 use Rattle.heading.specs.Heading.{Heading, readHeading, readSerialLine, readAerodrome}
 use Rattle.heading.specs.Answers.{addressesAnswer, filingAnswer, headingAnswer, aerodromeAnswer}
-use Rattle.text.specs.Out.{refuse, taken, next, fit}
+use Rattle.text.specs.Out.{refuse}
 use Rattle.front.specs.declared.Front.{Front}
 use Rattle.front.specs.Front.{frontCount, blankFront, withAddresses, withFiling, withHeading, withSerial, withAerodrome, fillLine, lineRefusal, nextLine, fillLines, frontAnswer, FrontHeld}
 
@@ -106,37 +104,18 @@ pub line-missing : (m : List ℕ) (at k : ℕ) (f : Front) → k < frontCount �
 unfolding fillLines nextLine lines
 line-missing m at k f h e = rw (one-left k h, drop-of-length-le m e)
 
-module _ (m : List ℕ) (at : ℕ) (w : at < length m) {n : Line} (e : n ≡ firstLine (take (length m - at) (drop at m))) where
-  here : n ≡ firstLine (drop at m)
-  here = e ∙ ap firstLine (part-all at m)
+-- the line k fits, or does not
+module _ (m : List ℕ) (at : ℕ) (w : at < length m) {n : Line} (e : n ≡ firstLine (take (length m - at) (drop at m))) (k : ℕ) (f : Front) (l : k < frontCount) (b : Bool) (g : Front) (h : fillLine k f (take (at + n .size - at) (drop at m)) ≡ pick b (got g []) misfit) where
+  there : lines (drop at m) ≡ take (at + n .size - at) (drop at m) ∷ lines (drop (at + n .next) m)
+  there = let s : at + n .size - at ≡ n .size = omega arith in rw s (line-lines m at w e)
 
-  -- the line lies within the message, and so does its end
-  pub line-inside : (at + n .size ≤ length m) × (at + n .next ≤ length m)
-  line-inside =
-      let s : n .size ≤ length (drop at m) = rw here (size-within (drop at m)) in
-      let t : n .next ≤ length (drop at m) = rw here (line-within (drop at m)) in
-      (omega (arith, length-drop at m), omega (arith, length-drop at m))
+  pub step-on : b ≡ true → fillLines (frontCount - k) k f (lines (drop at m)) ≡ fillLines (frontCount - (k + 1)) (k + 1) g (lines (drop (at + n .next) m))
+  unfolding fillLines nextLine
+  step-on t = rw (one-left k l, there, h, t, add-one k)
 
-  pub step-place : (k : ℕ) → at ≡ linesSize k m → at + n .next ≡ linesSize (k + 1) m
-  step-place k l =
-      let y : lineStep (drop at m) ≡ lineStep (drop (linesSize k m) m) = ap (λ (i : ℕ). lineStep (drop i m)) l in
-      let z : n .next ≡ lineStep (drop at m) = ap (λ (q : Line). q .next) here in
-      rw add-one (omega (arith, size-more k m))
-
-  module _ (k : ℕ) (f : Front) (l : k < frontCount) (b : Bool) (g : Front) (h : fillLine k f (take (at + n .size - at) (drop at m)) ≡ pick b (got g []) misfit) where
-    there : lines (drop at m) ≡ take (at + n .size - at) (drop at m) ∷ lines (drop (at + n .next) m)
-    there =
-        let s : at + n .size - at ≡ lineSize (drop at m) = omega (arith, ap (λ (q : Line). q .size) here) in
-        let t : n .next ≡ lineStep (drop at m) = ap (λ (q : Line). q .next) here in
-        first-lines (drop at m) (omega (arith, length-drop at m)) ∙ rw (s, t, drop-drop)
-
-    pub step-on : b ≡ true → fillLines (frontCount - k) k f (lines (drop at m)) ≡ fillLines (frontCount - (k + 1)) (k + 1) g (lines (drop (at + n .next) m))
-    unfolding fillLines nextLine
-    step-on t = rw (one-left k l, there, h, t, add-one k)
-
-    pub step-off : b ≡ false → fillLines (frontCount - k) k f (lines (drop at m)) ≡ refuse (lineRefusal k)
-    unfolding fillLines nextLine
-    step-off t = rw (one-left k l, there, h, t)
+  pub step-off : b ≡ false → fillLines (frontCount - k) k f (lines (drop at m)) ≡ refuse (lineRefusal k)
+  unfolding fillLines nextLine
+  step-off t = rw (one-left k l, there, h, t)
 
 -- all lines are read, or the line k does not fit
 module _ (m : List ℕ) (at k : ℕ) (f : Front) (w : at ≤ length m) (l : at ≡ linesSize k m) (left : fillLines (frontCount - k) k f (lines (drop at m)) ≡ fillLines frontCount 0 blankFront (lines m)) where

@@ -15,7 +15,7 @@ use Rattle.text.specs.Lines.{lines, lineSize, lineStep, closed, front, opened}
 use Rattle.text.specs.declared.Line.{Line}
 use Rattle.text.specs.Laws.Arrays.{take-front}
 use Rattle.text.specs.Laws.Held.{part-all}
-use Rattle.text.specs.Laws.Lines.{lines-first, front-part, closed-is, first-lines}
+use Rattle.text.specs.Laws.Lines.{lines-first, front-part, closed-is, first-lines, first-within}
 use Rattle.items.specs.declared.Item.{Item}
 use Rattle.items.specs.Awareness.{wholeAwareness}
 use Rattle.items.specs.Language.{wholeLanguage}
@@ -28,7 +28,6 @@ use Rattle.body.specs.Remarks.{makeLanguage, remarks, readLanguageLine, readRem
 use Rattle.remarks.specs.declared.RemarksRead.{RemarksRead}
 use Rattle.remarks.specs.declared.Tail.{Tail}
 use Rattle.remarks.specs.Held.{noRemarks, remarksAnswer, noTail, ending, lastItems, lastLanguage, nextLanguage, itemsStep, joined}
-use Rattle.text.specs.Laws.Lines.{size-within}
 
 -- the text of a line: all of it but the `)` that closes
 module _ (l : List ℕ) where
@@ -57,23 +56,17 @@ module _ (l : List ℕ) where
 
 -- the same of the line at the front of a message
 module _ (m : List ℕ) (line : Line) (f : line ≡ firstLine m) (n : ℕ) (e : n ≡ length (opened (take (line .size) m))) where
-  size-here : line .size ≡ lineSize m
-  size-here = ap (λ (l : Line). l .size) f
-
-  next-here : line .next ≡ lineStep m
-  next-here = ap (λ (l : Line). l .next) f
-
   line-size : length (take (line .size) m) ≡ line .size
-  line-size = length-take-le (line .size) m (rw size-here (size-within m))
+  line-size = length-take-le (line .size) m (first-within m f .0)
 
   pub text-within : n ≤ line .size
   text-within = omega (arith, text-short (take (line .size) m), line-size)
 
   text-there : take n m ≡ opened (take (lineSize m) m)
-  text-there = sym (take-take n (line .size) m text-within) ∙ rw (e, text-part (take (line .size) m), size-here)
+  text-there = sym (take-take n (line .size) m text-within) ∙ rw (e, text-part (take (line .size) m), f)
 
   text-shut-there : ltb n (line .size) ≡ closed (take (lineSize m) m)
-  text-shut-there = rw (e) (ap (ltb (length (opened (take (line .size) m)))) (sym line-size) ∙ text-shut (take (line .size) m) ∙ rw size-here)
+  text-shut-there = rw e (ap (ltb (length (opened (take (line .size) m)))) (sym line-size) ∙ text-shut (take (line .size) m) ∙ rw f)
 
 pub nothing-below : (m : List ℕ) → length m ≡ 0 → noRemarks 4 ≡ remarksAnswer (readRemarks (more (lines m)))
 unfolding lines
@@ -118,14 +111,14 @@ items-says (got is j) false rest = language-says is j rest
 module _ (m : List ℕ) (some : length m ≡ 0 → ⊥) (line : Line) (f : line ≡ firstLine m) (n : ℕ) (e : n ≡ length (opened (take (line .size) m))) where
   pub language-closed : n < line .size → nextLanguage m ≡ lastLanguage (languageAnswer (wholeLanguage (take n m))) (length m - line .next)
   unfolding nextLanguage
-  language-closed h = rw (ne-eqb (length m) 0 some, ← text-there m line f n e, ← text-shut-there m line f n e, lt-ltb n (line .size) h, next-here m line f n e)
+  language-closed h = rw (ne-eqb (length m) 0 some, ← text-there m line f n e, ← text-shut-there m line f n e, lt-ltb n (line .size) h, f)
 
   pub language-open : line .size ≤ n → nextLanguage m ≡ noTail 4
   unfolding nextLanguage
   language-open h = rw (ne-eqb (length m) 0 some, ← text-shut-there m line f n e, le-ltb n (line .size) h)
 
   pub remarks-says : below (itemsAnswer (wholeAwareness (take n m))) (ltb n (line .size)) (take (length m - line .next) (drop (line .next) m)) ≡ remarksAnswer (readRemarks (more (lines m)))
-  remarks-says = rw (text-there m line f n e, text-shut-there m line f n e, part-all, next-here m line f n e, first-lines m (omega (arith, some))) (items-says (wholeAwareness (opened (take (lineSize m) m))) (closed (take (lineSize m) m)) (drop (lineStep m) m))
+  remarks-says = rw (text-there m line f n e, text-shut-there m line f n e, part-all, f, first-lines m (omega (arith, some))) (items-says (wholeAwareness (opened (take (lineSize m) m))) (closed (take (lineSize m) m)) (drop (lineStep m) m))
 
   -- either the tail is refused, or it stands behind the items
   module _ {r : ItemsRead} (x : r ≡ itemsAnswer (wholeAwareness (take n m))) {t : Tail} (y : t ≡ itemsStep (r .fits) (r .count) (ltb n (line .size)) (take (length m - line .next) (drop (line .next) m))) where

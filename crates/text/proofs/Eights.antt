@@ -1,5 +1,5 @@
 -- Spaces counted eight at a time: the number of eight bytes less that of eight spaces ends in as many zero bytes as there are spaces in front.
-use Prim.Native.Nat.{ℕ, zero, suc, _+_, _-_, _*_, _/_, _%_, _<_, _≤_}
+use Prim.Native.Nat.{ℕ, zero, suc, _+_, _*_, _/_, _%_, _<_, _≤_}
 use mathlib.Core.Path.{_≡_, refl, sym, _∙_, ap}
 use mathlib.Core.List.{List, [], _∷_}
 use mathlib.Core.Bool.{Bool, true, false}
@@ -13,6 +13,8 @@ use Rattle.text.specs.Choice.{pick, _and_, all}
 use Rattle.text.specs.Names.{run, past}
 use Rattle.text.specs.Held.{isSpace, Reached, lowFirst, Eight}
 use Rattle.text.specs.Laws.Base.{and-1, and-2}
+use Rattle.text.specs.Laws.Runs.{run-all}
+use Rattle.text.proofs.Steps.{block-in, past-block}
 
 -- j digits more
 abbrev plus : ℕ → ℕ → ℕ
@@ -125,9 +127,9 @@ leading-spaces m i v d h w e =
     let r : trailingZeros (digitsOf (length l)) d / 8 ≡ length (run isSpace l) = counts l d q (h .bytes) f in
     ap (λ (k : ℕ). trailingZeros (digitsOf k) d / 8) (sym n) ∙ r
 
--- a run that ends within the first k bytes, and one that does not
+-- a run that ends within the first k bytes
 module _ (p : ℕ → Bool) where
-  pub run-ends : (k : ℕ) (l : List ℕ) → k ≤ length l → length (run p (take k l)) < k → past p l ≡ drop (length (run p (take k l))) l
+  run-ends : (k : ℕ) (l : List ℕ) → k ≤ length l → length (run p (take k l)) < k → past p l ≡ drop (length (run p (take k l))) l
   unfolding run past
   run-ends zero l h n = absurd (omega arith)
   run-ends (suc k) [] h n = absurd (omega arith)
@@ -138,22 +140,13 @@ module _ (p : ℕ → Bool) where
       go true f n = f (omega arith)
       go false f n = refl
 
-  pub run-on : (k : ℕ) (l : List ℕ) → k ≤ length (run p (take k l)) → past p l ≡ past p (drop k l)
-  unfolding run past
-  run-on zero l n = refl
-  run-on (suc k) [] n = refl
-  run-on (suc k) (x ∷ l) n = go (p x) (run-on k l) n
-    where
-      go : (t : Bool) → (k ≤ length (run p (take k l)) → past p l ≡ past p (drop k l)) → suc k ≤ length (pick t (x ∷ run p (take k l)) []) → pick t (past p l) (x ∷ l) ≡ past p (drop k l)
-      go true f n = f (omega arith)
-      go false f n = absurd (omega arith)
-
 -- past the spaces of eight bytes
 module _ (m : List ℕ) (j : ℕ) (w : j + 8 ≤ length m) {n : ℕ} (e : n ≡ length (run isSpace (take 8 (drop j m)))) where
+  eight-left : 8 ≤ length (drop j m)
+  eight-left = simp length-drop (omega arith)
+
   pub spaces-end : n < 8 → Reached m (past isSpace (drop j m)) (j + n)
-  spaces-end h =
-      let k : 8 ≤ length (drop j m) = simp length-drop (omega arith) in
-      record { within = omega arith; left = sym (drop-drop n j m) ∙ ap (λ (i : ℕ). drop i (drop j m)) e ∙ sym (run-ends isSpace 8 (drop j m) k (rw (← e) h)) }
+  spaces-end h = record { within = omega arith; left = sym (drop-drop n j m) ∙ ap (λ (i : ℕ). drop i (drop j m)) e ∙ sym (run-ends isSpace 8 (drop j m) eight-left (rw (← e) h)) }
 
   pub spaces-on : 8 ≤ n → past isSpace (drop (j + 8) m) ≡ past isSpace (drop j m)
-  spaces-on h = ap (past isSpace) (sym (drop-drop 8 j m)) ∙ sym (run-on isSpace 8 (drop j m) (rw (← e) h))
+  spaces-on h = past-block isSpace m j 8 (omega arith) refl (block-in isSpace 8 (drop j m) eight-left ∙ run-all isSpace (take 8 (drop j m)) (rw length-take (omega arith))) .1

@@ -3,7 +3,7 @@ use mathlib.Core.Path.{_≡_, refl, sym, _∙_}
 use mathlib.Core.List.{[]}
 use lib.ListN.{take, drop}
 use Rattle.body.specs.Rows.{newRunways}
-use Rattle.body.proofs.Loops.{none-used, none-left, new-hit, new-miss, new-none}
+use Rattle.body.proofs.Loops.{none-left, new-hit, new-miss, new-none}
 use borrow.Author.Needs.{needs}
 use Rattle.body.proofs.all_new.Statement.{statement}
 use Rattle.body.proofs.all_new.Tie as tie
@@ -18,7 +18,7 @@ loop-holds : tie.Need-loop-holds Inv-loop μ-loop
 loop-holds c = (search needs, refl)
 
 returns : tie.Need-returns Inv-loop μ-loop
-returns c = let a = c .before .before .before .args in let l = c .before .before .loop in sym (l .inv .1 ∙ new-none (take (l .i) (a .t1)) (none-used (a .t1) (a .count) (l .i) (search needs)))
+returns c = let a = c .before .before .before .args in let l = c .before .before .loop in sym (l .inv .1 ∙ new-none (take (l .i) (a .t1)) (none-left (a .t1) (a .count) (l .i) (search needs)))
 
 cast-r : tie.Need-cast-r Inv-loop μ-loop
 cast-r c = search needs

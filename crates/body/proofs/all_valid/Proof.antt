@@ -4,7 +4,7 @@ use lib.ListN.{take, drop}
 use borrow.Author.Tests.{not-true, not-false}
 use Rattle.text.specs.Choice.{all}
 use Rattle.row.specs.Row.{validRow}
-use Rattle.body.proofs.Loops.{none-used, none-left, used-yes, used-no}
+use Rattle.body.proofs.Loops.{none-left, used-yes, used-no}
 use borrow.Author.Needs.{needs}
 use Rattle.body.proofs.all_valid.Statement.{statement}
 use Rattle.body.proofs.all_valid.Tie as tie
@@ -19,7 +19,7 @@ loop-holds : tie.Need-loop-holds Inv-loop μ-loop
 loop-holds c = (search needs, refl)
 
 returns : tie.Need-returns Inv-loop μ-loop
-returns c = let a = c .before .before .before .args in let l = c .before .before .loop in sym (l .inv .1 ∙ ap (all validRow) (none-used (a .t1) (a .count) (l .i) (search needs)))
+returns c = let a = c .before .before .before .args in let l = c .before .before .loop in sym (l .inv .1 ∙ ap (all validRow) (none-left (a .t1) (a .count) (l .i) (search needs)))
 
 cast-r : tie.Need-cast-r Inv-loop μ-loop
 cast-r c = search needs

@@ -2,7 +2,7 @@ use Prim.Native.Nat.{_≤_, _-_}
 use mathlib.Core.Path.{_≡_, refl, sym, _∙_}
 use lib.ListN.{take, drop}
 use Rattle.body.specs.Rows.{isAmong}
-use Rattle.body.proofs.Loops.{none-used, none-left, among-hit, among-miss, among-none}
+use Rattle.body.proofs.Loops.{none-left, among-hit, among-miss, among-none}
 use borrow.Author.Needs.{needs}
 use Rattle.body.proofs.is_among.Statement.{statement}
 use Rattle.body.proofs.is_among.Tie as tie
@@ -17,7 +17,7 @@ loop-holds : tie.Need-loop-holds Inv-loop μ-loop
 loop-holds c = (search needs, refl)
 
 returns : tie.Need-returns Inv-loop μ-loop
-returns c = let a = c .before .before .before .args in let l = c .before .before .loop in sym (l .inv .1 ∙ among-none (a .r) (none-used (a .t2) (a .count) (l .i) (search needs)))
+returns c = let a = c .before .before .before .args in let l = c .before .before .loop in sym (l .inv .1 ∙ among-none (a .r) (none-left (a .t2) (a .count) (l .i) (search needs)))
 
 cast-s : tie.Need-cast-s Inv-loop μ-loop
 cast-s c = search needs

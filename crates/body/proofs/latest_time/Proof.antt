@@ -3,7 +3,7 @@ use mathlib.Core.Path.{_≡_, sym, _∙_}
 use native.Mathlib.Omega.{arith}
 use lib.ListN.{length, drop, length-map}
 use Rattle.body.specs.Rows.{latest, latestFrom, rowsOf}
-use Rattle.body.proofs.Loops.{none-used, none-left, latest-first, latest-next, latest-none, latest-zero}
+use Rattle.body.proofs.Loops.{none-left, latest-first, latest-next, latest-none, latest-zero}
 use borrow.Author.Needs.{needs}
 use Rattle.body.proofs.latest_time.Statement.{statement}
 use Rattle.body.proofs.latest_time.Tie as tie
@@ -24,7 +24,7 @@ loop-holds : tie.Need-loop-holds Inv-loop μ-loop
 loop-holds c = let s = c .before .before .before .before in let r = s .args .r in let n : length (r .rows) ≡ 8 = simp length-map at (s .good .0 .1 .1 .1 .0 .1 .0 .1) in (search needs, latest-first (r .rows) (r .count) (search needs) (omega arith))
 
 returns-2 : tie.Need-returns-2 Inv-loop μ-loop
-returns-2 c = let r = c .before .before .before .before .before .before .before .before .args .r in let l = c .before .before .before .loop in sym (l .inv .1 ∙ latest-none (l .t) (none-used (r .rows) (r .count) (l .i) (search needs)))
+returns-2 c = let r = c .before .before .before .before .before .before .before .before .args .r in let l = c .before .before .before .loop in sym (l .inv .1 ∙ latest-none (l .t) (none-left (r .rows) (r .count) (l .i) (search needs)))
 
 cast-s : tie.Need-cast-s Inv-loop μ-loop
 cast-s c = search needs

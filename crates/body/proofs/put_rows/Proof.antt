@@ -1,16 +1,16 @@
 use Rattle.text.specs.Laws.Put.{nothing-put}
 use native.Mathlib.Omega.{arith}
-use lib.ListN.{length-map}
 use Prim.Native.Nat.{_≤_, _-_}
 use mathlib.Core.Path.{_≡_, refl, sym, subst, _∙_}
 use mathlib.Core.List.{map}
-use lib.ListN.{length, take}
+use lib.ListN.{length, take, length-take, length-map}
+use lib.Seq.{take-all}
 use Rattle.text.specs.Put.{Put}
 use Rattle.text.specs.Laws.Put.{more}
 use Rattle.text.specs.Lines.{under}
 use Rattle.row.specs.Row.{rowPieces}
 use Rattle.body.specs.Rows.{rowsOf}
-use Rattle.body.proofs.Loops.{text-next, text-used, text-left}
+use Rattle.body.proofs.Loops.{text-next}
 use borrow.Author.Needs.{needs}
 use Rattle.body.proofs.put_rows.Statement.{statement}
 use Rattle.body.proofs.put_rows.Tie as tie
@@ -32,7 +32,7 @@ same-length : tie.Need-same-length Inv-loop μ-loop
 same-length c = c .before .before .before .loop .inv .1
 
 returns : tie.Need-returns Inv-loop μ-loop
-returns c = let a = c .before .before .before .before .before .before .before .before .args in let l = c .before .before .before .loop in subst (λ t. Put (a .at) t (a .out .now) (l .out) (l .behind)) (text-used (a .r .rows) (a .r .count) (l .i) (search needs)) (l .inv .2)
+returns c = let a = c .before .before .before .before .before .before .before .before .args in let l = c .before .before .before .loop in rw (take-all (l .i) (rowsOf (a .r)) (rw length-take (omega arith))) at (l .inv .2)
 
 cast-row : tie.Need-cast-row Inv-loop μ-loop
 cast-row c = search needs
@@ -65,7 +65,7 @@ same-length-2 : tie.Need-same-length-2 Inv-loop μ-loop
 same-length-2 c = c .before .loop .inv .1
 
 returns-2 : tie.Need-returns-2 Inv-loop μ-loop
-returns-2 c = let s = c .before .before .before .before .before .before in let a = s .args in let l = c .before .loop in let n : length (a .r .rows) ≡ 8 = simp length-map at (s .good .1 .1 .0 .1 .1 .1 .0 .1 .0 .1) in subst (λ t. Put (a .at) t (a .out .now) (l .out) (l .behind)) (text-left (a .r .rows) (a .r .count) (l .i) (omega arith)) (l .inv .2)
+returns-2 c = let s = c .before .before .before .before .before .before in let a = s .args in let l = c .before .loop in let n : length (a .r .rows) ≡ 8 = simp length-map at (s .good .1 .1 .0 .1 .1 .1 .0 .1 .0 .1) in rw (take-all (l .i) (rowsOf (a .r)) (rw length-take (omega arith))) at (l .inv .2)
 
 pub put-rows-spec : {M : Type 1} → statement M
 put-rows-spec =

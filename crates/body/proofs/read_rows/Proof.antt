@@ -8,7 +8,7 @@ use native.Mathlib.Omega.{arith}
 use lib.ListN.{take, drop}
 use Rattle.body.specs.Rows.{mostRows, isAmong}
 use Rattle.body.specs.Held.{rowsAnswer, RowsHeld}
-use Rattle.body.proofs.Loops.{none-used, among-hit, among-miss, among-none}
+use Rattle.body.proofs.Loops.{none-left, among-hit, among-miss, among-none}
 use Rattle.body.proofs.Steps.{SoFar, begun, size, refused, missing, within, blank-line, ninth, stray, twice, goes-on, last-line}
 use borrow.Author.Needs.{needs}
 use Rattle.body.proofs.read_rows.Statement.{statement}
@@ -118,7 +118,7 @@ lines-again c =
     let q = p .before .before .before .before .before in
     let l = q .before .before .before .lines in (
       goes-on (l .inv .0) (q .before .before .if1 .left) (q .first-line .ensures) (p .before .before .before .if2 .left) (p .before .before .if3 .left) (p .row-line .ensures)
-          (o .before .before .if4 .left) (o .loop .inv ∙ among-none (p .row-line .result .row) (none-used (l .rows) (l .count) (o .loop .k) (c .before .loop-test .left))) (c .if6 .left),
+          (o .before .before .if4 .left) (o .loop .inv ∙ among-none (p .row-line .result .row) (none-left (l .rows) (l .count) (o .loop .k) (omega arith))) (c .if6 .left),
       c .if6 .left,
     )
 
@@ -138,7 +138,7 @@ answered c =
     (⊎-elim (λ w. rw (w .20) (refused m 7 refl (twice s (w .0 .left) (w .2 .ensures) (w .4 .left) (w .5 .left) (w .7 .ensures) (w .9 .left)
     (w .11 .inv ∙ among-hit (l .rows) (l .count) (w .11 .k) (w .12 .taken) (omega (arith, size (s .kept))) (w .7 .result .row) (sym (w .14 .ensures) ∙ w .15 .taken))) _ _ _))
     (λ w. rw (w .15, w .16, w .17 ∙ w .13 .taken, w .18, w .19 ∙ w .14 .ensures) (last-line s (w .0 .left) (w .2 .ensures) (w .4 .left) (w .5 .left) (w .7 .ensures) (w .9 .left)
-    (w .11 .inv ∙ among-none (w .7 .result .row) (none-used (l .rows) (l .count) (w .11 .k) (w .12 .left))) (w .13 .taken))))))) (c .if1 .came)
+    (w .11 .inv ∙ among-none (w .7 .result .row) (none-left (l .rows) (l .count) (w .11 .k) (omega (arith, w .12 .left)))) (w .13 .taken))))))) (c .if1 .came)
 
 returns : tie.Need-returns Inv-loop μ-loop Inv-lines μ-lines
 returns c = rw (c .rows-answer .ensures) (answered (c .before))

@@ -1,9 +1,8 @@
-use mathlib.Core.Path.{ap}
 use native.Mathlib.Omega.{arith}
 use lib.ListN.{length-take}
-use Rattle.text.specs.Laws.Lines.{size-within}
+use Rattle.text.specs.Laws.Lines.{first-within}
 use Rattle.text.specs.Laws.Put.{more}
-use Rattle.desktext.proofs.Steps.{next-within, nothing-opened, not-opened, opened}
+use Rattle.desktext.proofs.Steps.{nothing-opened, not-opened, opened}
 use borrow.Author.Needs.{needs}
 use Rattle.desktext.proofs.desk.Statement.{statement}
 use Rattle.desktext.proofs.desk.Tie as tie
@@ -22,8 +21,7 @@ first-line-requires c κs = search needs
 
 slice-aggregate-open-line : tie.Need-slice-aggregate-open-line
 slice-aggregate-open-line c =
-    let s = ap (λ l. l .size) (c .before .first-line .ensures) in
-    let w = size-within (c .before .before .before .before .before .args .input .now) in
+    let w = first-within (c .before .before .before .before .before .args .input .now) (c .before .first-line .ensures) in
     rw length-take (omega arith)
 
 open-line-requires : tie.Need-open-line-requires
@@ -49,10 +47,10 @@ put-requires : tie.Need-put-requires
 put-requires c κs = search needs
 
 sub-put-answers : tie.Need-sub-put-answers
-sub-put-answers c = let l = c .before .before .before .before .before .before .before .before .before .before .before in next-within (l .before .before .before .before .args .input .now) (l .first-line .result) (l .first-line .ensures)
+sub-put-answers c = let l = c .before .before .before .before .before .before .before .before .before .before .before in first-within (l .before .before .before .before .args .input .now) (l .first-line .ensures) .1
 
 part-put-answers-start : tie.Need-part-put-answers-start
-part-put-answers-start c = let l = c .before .before .before .before .before .before .before .before .before .before .before in let w = next-within (l .before .before .before .before .args .input .now) (l .first-line .result) (l .first-line .ensures) in search needs
+part-put-answers-start c = let l = c .before .before .before .before .before .before .before .before .before .before .before in let w = first-within (l .before .before .before .before .args .input .now) (l .first-line .ensures) in search needs
 
 part-put-answers-end : tie.Need-part-put-answers-end
 part-put-answers-end c = search needs

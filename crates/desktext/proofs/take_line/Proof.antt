@@ -1,7 +1,6 @@
-use mathlib.Core.Path.{ap}
 use native.Mathlib.Omega.{arith}
 use lib.ListN.{length-take}
-use Rattle.text.specs.Laws.Lines.{size-within}
+use Rattle.text.specs.Laws.Lines.{first-within}
 use Rattle.desktext.proofs.Steps.{taken-is}
 use borrow.Author.Needs.{needs}
 use Rattle.desktext.proofs.take_line.Statement.{statement}
@@ -12,8 +11,7 @@ first-line-requires c κs = search needs
 
 slice-aggregate-report-line : tie.Need-slice-aggregate-report-line
 slice-aggregate-report-line c =
-    let s = ap (λ l. l .size) (c .before .first-line .ensures) in
-    let w = size-within (c .before .before .before .args .m .now) in
+    let w = first-within (c .before .before .before .args .m .now) (c .before .first-line .ensures) in
     rw length-take (omega arith)
 
 report-line-requires : tie.Need-report-line-requires

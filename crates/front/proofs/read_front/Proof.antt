@@ -2,13 +2,15 @@
 use Prim.Native.Nat.{ℕ, _≤_, _+_, _-_}
 use mathlib.Core.Path.{_≡_, refl, sym, subst, _∙_, ap}
 use mathlib.Core.List.{List, []}
+use native.Mathlib.Numerals.{add-one}
 use native.Mathlib.Omega.{arith}
 use mathlib.Core.Logic.{⊎-elim}
 use lib.ListN.{length, take, drop}
 use Rattle.text.specs.Lines.{lines, linesSize}
+use Rattle.text.specs.Laws.Lines.{line-inside, line-place}
 use Rattle.front.specs.declared.Front.{Front}
 use Rattle.front.specs.Front.{frontCount, blankFront, fillLine, fillLines, FrontHeld}
-use Rattle.front.proofs.Opening.{fill-addresses, fill-filing, fill-heading, fill-serial, fill-aerodrome, line-missing, line-inside, step-place, step-on, step-off, front-read, front-refused}
+use Rattle.front.proofs.Opening.{fill-addresses, fill-filing, fill-heading, fill-serial, fill-aerodrome, line-missing, step-on, step-off, front-read, front-refused}
 use borrow.Author.Needs.{needs}
 use borrow.Author.Tests.{not-true, not-false}
 use Rattle.text.specs.Choice.{pick}
@@ -110,7 +112,7 @@ lines-again c =
     let e = f .first-line .ensures in (
       line-inside m (l .at) w e .1,
       omega arith,
-      step-place m (l .at) w e (l .k) (l .inv .2),
+      rw add-one (line-place m (l .at) w e (l .k) (l .inv .2)),
       sym (step-on m (l .at) w e (l .k) (l .front) (omega arith) (g .fits) (g .front) (filled (c .before)) (not-false _ (c .if3 .left))) ∙ l .inv .3,
     )
 

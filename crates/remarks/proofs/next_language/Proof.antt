@@ -1,7 +1,7 @@
-use mathlib.Core.Path.{sym, _∙_, ap}
+use mathlib.Core.Path.{sym, _∙_}
 use native.Mathlib.Omega.{arith}
 use lib.ListN.{length-take}
-use Rattle.text.specs.Laws.Lines.{size-within, line-within}
+use Rattle.text.specs.Laws.Lines.{first-within}
 use borrow.Author.Tests.{eq-eqb}
 use Rattle.remarks.specs.Held.{nextLanguage}
 use Rattle.remarks.proofs.Steps.{language-closed, language-open}
@@ -20,19 +20,19 @@ first-line-requires : tie.Need-first-line-requires
 first-line-requires c κs = search needs
 
 slice-aggregate-text-size : tie.Need-slice-aggregate-text-size
-slice-aggregate-text-size c = let s = ap (λ l. l .size) (c .before .first-line .ensures) in let w = size-within (c .before .before .before .before .args .m .now) in rw length-take (omega arith)
+slice-aggregate-text-size c = let w = first-within (c .before .before .before .before .args .m .now) (c .before .first-line .ensures) in rw length-take (omega arith)
 
 text-size-requires : tie.Need-text-size-requires
 text-size-requires c κs = search needs
 
 slice-aggregate-read-language : tie.Need-slice-aggregate-read-language
-slice-aggregate-read-language c = let s = ap (λ l. l .size) (c .before .before .before .before .first-line .ensures) in let w = size-within (c .before .before .before .before .before .before .before .args .m .now) in rw length-take (omega arith)
+slice-aggregate-read-language c = let w = first-within (c .before .before .before .before .before .before .before .args .m .now) (c .before .before .before .before .first-line .ensures) in rw length-take (omega arith)
 
 read-language-requires : tie.Need-read-language-requires
 read-language-requires c κs = search needs
 
 sub-last-language : tie.Need-sub-last-language
-sub-last-language c = let s = ap (λ l. l .next) (c .before .before .before .before .before .before .first-line .ensures) in let w = line-within (c .before .before .before .before .before .before .before .before .before .args .m .now) in omega arith
+sub-last-language c = let p = c .before .before .before .before .before .before in omega (arith, first-within (p .before .before .before .args .m .now) (p .first-line .ensures) .1)
 
 last-language-requires : tie.Need-last-language-requires
 last-language-requires c κs = search needs

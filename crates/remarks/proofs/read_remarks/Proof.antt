@@ -1,7 +1,7 @@
-use mathlib.Core.Path.{_∙_, ap}
+use mathlib.Core.Path.{_∙_}
 use native.Mathlib.Omega.{arith}
 use lib.ListN.{length-take}
-use Rattle.text.specs.Laws.Lines.{size-within, line-within}
+use Rattle.text.specs.Laws.Lines.{first-within}
 use Rattle.remarks.proofs.Steps.{nothing-below, text-within, tail-refused, tail-joined}
 use borrow.Author.Needs.{needs}
 use Rattle.remarks.proofs.read_remarks.Statement.{statement}
@@ -25,7 +25,7 @@ first-line-requires : tie.Need-first-line-requires
 first-line-requires c κs = search needs
 
 slice-aggregate-text-size : tie.Need-slice-aggregate-text-size
-slice-aggregate-text-size c = let s = ap (λ l. l .size) (c .before .first-line .ensures) in let w = size-within (c .before .before .before .before .before .args .m .now) in rw length-take (omega arith)
+slice-aggregate-text-size c = let w = first-within (c .before .before .before .before .before .args .m .now) (c .before .first-line .ensures) in rw length-take (omega arith)
 
 text-size-requires : tie.Need-text-size-requires
 text-size-requires c κs = search needs
@@ -34,8 +34,7 @@ slice-aggregate-read-awareness : tie.Need-slice-aggregate-read-awareness
 slice-aggregate-read-awareness c =
     let p = c .before .before .before in
     let m = p .before .before .before .before .args .m .now in
-    let s = ap (λ l. l .size) (p .first-line .ensures) in
-    let w = size-within m in
+    let w = first-within m (p .first-line .ensures) in
     let t = text-within m (p .first-line .result) (p .first-line .ensures) (c .before .text-size .result) (c .before .text-size .ensures) in
     rw length-take (omega arith)
 
@@ -45,16 +44,12 @@ read-awareness-requires c κs = search needs
 sub-items-step : tie.Need-sub-items-step
 sub-items-step c =
     let p = c .before .before .before .before in
-    let s = ap (λ l. l .next) (p .first-line .ensures) in
-    let w = line-within (p .before .before .before .before .args .m .now) in
-    omega arith
+    omega (arith, first-within (p .before .before .before .before .args .m .now) (p .first-line .ensures) .1)
 
 part-items-step-start : tie.Need-part-items-step-start
 part-items-step-start c =
     let p = c .before .before .before .before in
-    let s = ap (λ l. l .next) (p .first-line .ensures) in
-    let w = line-within (p .before .before .before .before .args .m .now) in
-    omega arith
+    omega (arith, first-within (p .before .before .before .before .args .m .now) (p .first-line .ensures) .1)
 
 part-items-step-end : tie.Need-part-items-step-end
 part-items-step-end c = search needs

@@ -1,9 +1,10 @@
 -- A run of bytes of a class: what it takes, and where it ends.
-use Prim.Native.Nat.{ℕ}
+use Prim.Native.Nat.{ℕ, _≤_}
 use mathlib.Core.Path.{_≡_, refl, sym, _∙_, ap}
 use mathlib.Core.List.{List, [], _∷_, _++_}
 use mathlib.Core.Bool.{Bool, true, false}
 use lib.ListN.{length, take, drop}
+use lib.Seq.{take-all}
 use Rattle.text.specs.Choice.{pick, all, headIs}
 use Rattle.text.specs.Read.{got, guard, andThen}
 use Rattle.text.specs.Held.{Reached, fits}
@@ -34,6 +35,14 @@ module _ (p : ℕ → Bool) where
       go true e h = and-i e h
       go false e h = refl
 
+  -- it is what stands in front
+  run-front : (f : List ℕ) → take (length (run p f)) f ≡ run p f
+  run-front f = ap (take (length (run p f))) (sym (run-past f)) ∙ take-front (run p f) (past p f)
+
+  -- so bytes that it takes all of are of the class
+  pub run-all : (f : List ℕ) → length f ≤ length (run p f) → all p f ≡ true
+  run-all f h = ap (all p) (sym (take-all (length (run p f)) f h) ∙ run-front f) ∙ run-in f
+
   -- one byte of the class stands there
   pub one-counted : (f : List ℕ) → fits (readCount p 1 f) ≡ headIs p f
   unfolding readCount
@@ -50,4 +59,4 @@ module _ (p : ℕ → Bool) where
 
     -- the bytes before its end
     pub run-taken : take n f ≡ run p f
-    run-taken = ap (λ k. take k f) run-end ∙ ap (take (length (run p f))) (sym (run-past f)) ∙ take-front (run p f) (past p f)
+    run-taken = ap (λ k. take k f) run-end ∙ run-front f
