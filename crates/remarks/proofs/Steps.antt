@@ -88,12 +88,12 @@ module _ (is : List Item) (k : List ℕ) where
   closed-says true (got t j) rest = end-says t rest
 
   language-says : (m : List ℕ) → joined (itemsAnswer (got is k)) (nextLanguage m) ≡ remarksAnswer (readLanguageLine is (lines m))
-  unfolding joined nextLanguage lines
+  unfolding joined nextLanguage lines lineSize closed
   language-says [] = refl
   language-says (x ∷ m) =
       let l = take (lineSize (x ∷ m)) (x ∷ m) in
       let rest = drop (lineStep (x ∷ m)) (x ∷ m) in
-      rw (ne-eqb (suc (length m)) 0 (omega arith), ← length-drop (lineStep (x ∷ m)) (x ∷ m), lines-first x m) (closed-says (closed l) (wholeLanguage (opened l)) rest)
+      rw (← length-drop (lineStep (x ∷ m)) (x ∷ m), lines-first x m) (closed-says (closed l) (wholeLanguage (opened l)) rest)
 
 -- the items and what stands behind them, as they are answered
 abbrev pub below : ItemsRead → Bool → List ℕ → RemarksRead
@@ -108,22 +108,22 @@ items-says (got (i ∷ is) j) true rest = rw (ne-eqb (suc (length is)) 0 (omega 
 items-says (got is j) false rest = language-says is j rest
 
 -- the answers of the code
-module _ (m : List ℕ) (some : length m ≡ 0 → ⊥) (line : Line) (f : line ≡ firstLine m) (n : ℕ) (e : n ≡ length (opened (take (line .size) m))) where
+module _ (m : List ℕ) (line : Line) (f : line ≡ firstLine m) (n : ℕ) (e : n ≡ length (opened (take (line .size) m))) where
   pub language-closed : n < line .size → nextLanguage m ≡ lastLanguage (languageAnswer (wholeLanguage (take n m))) (length m - line .next)
   unfolding nextLanguage
-  language-closed h = rw (ne-eqb (length m) 0 some, ← text-there m line f n e, ← text-shut-there m line f n e, lt-ltb n (line .size) h, f)
+  language-closed h = rw (← text-there m line f n e, ← text-shut-there m line f n e, lt-ltb n (line .size) h, f)
 
   pub language-open : line .size ≤ n → nextLanguage m ≡ noTail 4
   unfolding nextLanguage
-  language-open h = rw (ne-eqb (length m) 0 some, ← text-shut-there m line f n e, le-ltb n (line .size) h)
+  language-open h = rw (← text-shut-there m line f n e, le-ltb n (line .size) h)
 
-  pub remarks-says : below (itemsAnswer (wholeAwareness (take n m))) (ltb n (line .size)) (take (length m - line .next) (drop (line .next) m)) ≡ remarksAnswer (readRemarks (more (lines m)))
-  remarks-says = rw (text-there m line f n e, text-shut-there m line f n e, part-all, f, first-lines m (omega (arith, some))) (items-says (wholeAwareness (opened (take (lineSize m) m))) (closed (take (lineSize m) m)) (drop (lineStep m) m))
+  remarks-says : (length m ≡ 0 → ⊥) → below (itemsAnswer (wholeAwareness (take n m))) (ltb n (line .size)) (take (length m - line .next) (drop (line .next) m)) ≡ remarksAnswer (readRemarks (more (lines m)))
+  remarks-says some = rw (text-there m line f n e, text-shut-there m line f n e, part-all, f, first-lines m (omega (arith, some))) (items-says (wholeAwareness (opened (take (lineSize m) m))) (closed (take (lineSize m) m)) (drop (lineStep m) m))
 
   -- either the tail is refused, or it stands behind the items
-  module _ {r : ItemsRead} (x : r ≡ itemsAnswer (wholeAwareness (take n m))) {t : Tail} (y : t ≡ itemsStep (r .fits) (r .count) (ltb n (line .size)) (take (length m - line .next) (drop (line .next) m))) where
+  module _ (some : length m ≡ 0 → ⊥) {r : ItemsRead} (x : r ≡ itemsAnswer (wholeAwareness (take n m))) {t : Tail} (y : t ≡ itemsStep (r .fits) (r .count) (ltb n (line .size)) (take (length m - line .next) (drop (line .next) m))) where
     both : joined r t ≡ remarksAnswer (readRemarks (more (lines m)))
-    both = rw (y, x) remarks-says
+    both = rw (y, x) (remarks-says some)
 
     pub tail-refused : (t .refusal ≡ 0 → ⊥) → noRemarks (t .refusal) ≡ remarksAnswer (readRemarks (more (lines m)))
     unfolding joined

@@ -43,9 +43,7 @@ lastLanguage r left = pick (r .fits) (ending (record { length = r .length; bytes
 
 -- the line of plain language: 4 where it is missing, and "at once" where it lacks `)`
 unfoldable pub nextLanguage : List ℕ → Tail
-nextLanguage m =
-    pick (eqb (length m) 0) (noTail 4)
-    (pick (closed (take (lineSize m) m)) (lastLanguage (languageAnswer (wholeLanguage (opened (take (lineSize m) m)))) (length m - lineStep m)) (noTail 4))
+nextLanguage m = pick (closed (take (lineSize m) m)) (lastLanguage (languageAnswer (wholeLanguage (opened (take (lineSize m) m)))) (length m - lineStep m)) (noTail 4)
 
 -- the awareness line: whether it fits, how many items it has, whether `)` closes it, and what is left behind it
 unfoldable pub itemsStep : Bool → ℕ → Bool → List ℕ → Tail

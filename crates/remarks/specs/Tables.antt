@@ -40,7 +40,7 @@ pub record Answers : Type 0 where
   unfit : lastLanguage (record { fits = false; length = 2; bytes = some .bytes }) 0 ≡ noTail 9
   fit : lastLanguage (record { fits = true; length = 2; bytes = some .bytes }) 0 ≡ said some
   -- 4 where the line is missing or lacks `)`
-  languages : map (λ s. nextLanguage (bytes s)) ("" ∷ "A.)" ∷ "A." ∷ "a.)" ∷ []) ≡ noTail 4 ∷ said some ∷ noTail 4 ∷ noTail 9 ∷ []
+  languages : map (λ s. nextLanguage (bytes s)) ("" ∷ ")" ∷ "A.)" ∷ "A." ∷ "a.)" ∷ []) ≡ noTail 4 ∷ noTail 9 ∷ said some ∷ noTail 4 ∷ noTail 9 ∷ []
   behind : map nextLanguage ((bytes "A.)" ++ (10 ∷ [])) ∷ (bytes "A.)" ++ (10 ∷ 65 ∷ [])) ∷ []) ≡ said some ∷ noTail 4 ∷ []
   -- 8 where the items do not fit, whatever follows
   steps : map (λ fits. itemsStep fits 1 false (bytes "A.)")) (true ∷ false ∷ []) ≡ said some ∷ noTail 8 ∷ []

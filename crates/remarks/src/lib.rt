@@ -202,13 +202,10 @@ fn last_language(read: LanguageRead, left: usize) -> Tail
     no_tail(9)
 }
 
-// The line of plain language at the front of `m`: 4 where it is missing, and at once where it lacks `)`.
+// The line of plain language at the front of `m`: 4 where it is missing, which is an empty line, and at once where it lacks `)`.
 fn next_language(m: &[u8]) -> Tail
     ensures { λ t. ⌜ t ≡ nextLanguage (now (m .entry)) ⌝ }
 {
-    if m.len() == 0 {
-        return no_tail(4);
-    }
     let line = first_line(m);
     let size = line.size;
     let text = text_size(&m[..size]);

@@ -2,65 +2,54 @@ use mathlib.Core.Path.{sym, _∙_}
 use native.Mathlib.Omega.{arith}
 use lib.ListN.{length-take}
 use Rattle.text.specs.Laws.Lines.{first-within}
-use borrow.Author.Tests.{eq-eqb}
-use Rattle.remarks.specs.Held.{nextLanguage}
 use Rattle.remarks.proofs.Steps.{language-closed, language-open}
 use borrow.Author.Needs.{needs}
 use Rattle.remarks.proofs.next_language.Statement.{statement}
 use Rattle.remarks.proofs.next_language.Tie as tie
 
-no-tail-requires : tie.Need-no-tail-requires
-no-tail-requires c κs = search needs
-
-returns : tie.Need-returns
-unfolding nextLanguage
-returns c = rw (eq-eqb _ _ (c .before .if1 .taken)) (c .no-tail .ensures)
-
 first-line-requires : tie.Need-first-line-requires
 first-line-requires c κs = search needs
 
 slice-aggregate-text-size : tie.Need-slice-aggregate-text-size
-slice-aggregate-text-size c = let w = first-within (c .before .before .before .before .args .m .now) (c .before .first-line .ensures) in rw length-take (omega arith)
+slice-aggregate-text-size c = let w = first-within (c .before .before .before .args .m .now) (c .before .first-line .ensures) in rw length-take (omega arith)
 
 text-size-requires : tie.Need-text-size-requires
 text-size-requires c κs = search needs
 
 slice-aggregate-read-language : tie.Need-slice-aggregate-read-language
-slice-aggregate-read-language c = let w = first-within (c .before .before .before .before .before .before .before .args .m .now) (c .before .before .before .before .first-line .ensures) in rw length-take (omega arith)
+slice-aggregate-read-language c = let w = first-within (c .before .before .before .before .before .before .args .m .now) (c .before .before .before .before .first-line .ensures) in rw length-take (omega arith)
 
 read-language-requires : tie.Need-read-language-requires
 read-language-requires c κs = search needs
 
 sub-last-language : tie.Need-sub-last-language
-sub-last-language c = let p = c .before .before .before .before .before .before in omega (arith, first-within (p .before .before .before .args .m .now) (p .first-line .ensures) .1)
+sub-last-language c = let p = c .before .before .before .before .before .before in omega (arith, first-within (p .before .before .args .m .now) (p .first-line .ensures) .1)
 
 last-language-requires : tie.Need-last-language-requires
 last-language-requires c κs = search needs
 
-returns-2 : tie.Need-returns-2
-returns-2 c =
+returns : tie.Need-returns
+returns c =
     let s = c .before .before .before .before .before in
     let p = s .before .before in
-    let a = p .before .before .before .args in
-    let e = language-closed (a .m .now) (p .before .if1 .left) (p .first-line .result) (p .first-line .ensures) (s .text-size .result) (s .text-size .ensures) (c .before .before .before .before .if2 .taken) in
+    let a = p .before .before .args in
+    let e = language-closed (a .m .now) (p .first-line .result) (p .first-line .ensures) (s .text-size .result) (s .text-size .ensures) (c .before .before .before .before .if1 .taken) in
     c .last-language .ensures ∙ rw (c .before .before .read-language .ensures) (sym e)
 
-no-tail-requires-2 : tie.Need-no-tail-requires-2
-no-tail-requires-2 c κs = search needs
+no-tail-requires : tie.Need-no-tail-requires
+no-tail-requires c κs = search needs
 
-returns-3 : tie.Need-returns-3
-returns-3 c =
+returns-2 : tie.Need-returns-2
+returns-2 c =
     let s = c .before .before in
     let p = s .before .before in
-    let a = p .before .before .before .args in
-    c .no-tail2 .ensures ∙ sym (language-open (a .m .now) (p .before .if1 .left) (p .first-line .result) (p .first-line .ensures) (s .text-size .result) (s .text-size .ensures) (c .before .if2 .left))
+    let a = p .before .before .args in
+    c .no-tail .ensures ∙ sym (language-open (a .m .now) (p .first-line .result) (p .first-line .ensures) (s .text-size .result) (s .text-size .ensures) (c .before .if1 .left))
 
 pub next-language-spec : {M : Type 1} → statement M
 next-language-spec =
     tie.close
     (tie.spec
-    no-tail-requires
-    returns
     first-line-requires
     slice-aggregate-text-size
     text-size-requires
@@ -68,6 +57,6 @@ next-language-spec =
     read-language-requires
     sub-last-language
     last-language-requires
-    returns-2
-    no-tail-requires-2
-    returns-3)
+    returns
+    no-tail-requires
+    returns-2)

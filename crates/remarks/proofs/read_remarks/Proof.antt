@@ -67,7 +67,7 @@ returns-3 c =
     let p = s .before .before in
     let l = p .before .before in
     let m = l .before .before .args .m .now in
-    rw (l .if1 .left) (c .no-remarks3 .ensures ∙ tail-refused m (p .before .if2 .left) (p .first-line .result) (p .first-line .ensures) (s .text-size .result) (s .text-size .ensures) (q .before .before .read-awareness .ensures) (q .items-step .ensures) (c .before .if3 .taken))
+    rw (l .if1 .left) (c .no-remarks3 .ensures ∙ tail-refused m (p .first-line .result) (p .first-line .ensures) (s .text-size .result) (s .text-size .ensures) (p .before .if2 .left) (q .before .before .read-awareness .ensures) (q .items-step .ensures) (c .before .if3 .taken))
 
 returns-4 : tie.Need-returns-4
 returns-4 c =
@@ -76,7 +76,7 @@ returns-4 c =
     let p = s .before .before in
     let l = p .before .before in
     let m = l .before .before .args .m .now in
-    rw (l .if1 .left) (tail-joined m (p .before .if2 .left) (p .first-line .result) (p .first-line .ensures) (s .text-size .result) (s .text-size .ensures) (q .before .before .read-awareness .ensures) (q .items-step .ensures) (c .before .before .if3 .left))
+    rw (l .if1 .left) (tail-joined m (p .first-line .result) (p .first-line .ensures) (s .text-size .result) (s .text-size .ensures) (p .before .if2 .left) (q .before .before .read-awareness .ensures) (q .items-step .ensures) (c .before .before .if3 .left))
 
 pub read-remarks-spec : {M : Type 1} → statement M
 read-remarks-spec =
