@@ -17,7 +17,7 @@ use Rattle.text.specs.Laws.Arrays.{take-front}
 use Rattle.text.specs.Laws.Held.{part-all}
 use Rattle.text.specs.Laws.Lines.{lines-first, front-part, closed-is, first-lines, first-within}
 use Rattle.items.specs.declared.Item.{Item}
-use Rattle.items.specs.Awareness.{wholeAwareness}
+use Rattle.items.specs.Awareness.{readAwareness, wholeAwareness}
 use Rattle.items.specs.Language.{wholeLanguage}
 use Rattle.items.specs.Held.{languageAnswer}
 use Rattle.awareness.specs.declared.ItemsRead.{ItemsRead}
@@ -68,11 +68,6 @@ module _ (m : List ℕ) (line : Line) (f : line ≡ firstLine m) (n : ℕ) (e : 
   text-shut-there : ltb n (line .size) ≡ closed (take (lineSize m) m)
   text-shut-there = rw e (ap (ltb (length (opened (take (line .size) m)))) (sym line-size) ∙ text-shut (take (line .size) m) ∙ rw f)
 
-pub nothing-below : (m : List ℕ) → length m ≡ 0 → noRemarks 4 ≡ remarksAnswer (readRemarks (more (lines m)))
-unfolding lines
-nothing-below [] h = refl
-nothing-below (x ∷ m) h = absurd (omega arith)
-
 -- behind items that fit
 module _ (is : List Item) (k : List ℕ) where
   end-says : (t rest : List ℕ) → joined (itemsAnswer (got is k)) (ending (makeLanguage t) (length rest)) ≡ remarksAnswer (atEnd (lines rest) (remarks is t))
@@ -107,6 +102,12 @@ items-says (got [] j) true rest = refl
 items-says (got (i ∷ is) j) true rest = rw (ne-eqb (suc (length is)) 0 (omega arith)) (end-says (i ∷ is) j [] rest)
 items-says (got is j) false rest = language-says is j rest
 
+-- the first line of what is left; where nothing is left it is empty, and so is the line behind it
+first-says : (m : List ℕ) → below (itemsAnswer (wholeAwareness (opened (take (lineSize m) m)))) (closed (take (lineSize m) m)) (drop (lineStep m) m) ≡ remarksAnswer (readRemarks (more (lines m)))
+unfolding joined itemsStep nextLanguage lines lineSize lineStep closed wholeAwareness readAwareness
+first-says [] = refl
+first-says (x ∷ m) = rw (lines-first x m) (items-says (wholeAwareness (opened (take (lineSize (x ∷ m)) (x ∷ m)))) (closed (take (lineSize (x ∷ m)) (x ∷ m))) (drop (lineStep (x ∷ m)) (x ∷ m)))
+
 -- the answers of the code
 module _ (m : List ℕ) (line : Line) (f : line ≡ firstLine m) (n : ℕ) (e : n ≡ length (opened (take (line .size) m))) where
   pub language-closed : n < line .size → nextLanguage m ≡ lastLanguage (languageAnswer (wholeLanguage (take n m))) (length m - line .next)
@@ -117,13 +118,13 @@ module _ (m : List ℕ) (line : Line) (f : line ≡ firstLine m) (n : ℕ) (e : 
   unfolding nextLanguage
   language-open h = rw (← text-shut-there m line f n e, le-ltb n (line .size) h)
 
-  remarks-says : (length m ≡ 0 → ⊥) → below (itemsAnswer (wholeAwareness (take n m))) (ltb n (line .size)) (take (length m - line .next) (drop (line .next) m)) ≡ remarksAnswer (readRemarks (more (lines m)))
-  remarks-says some = rw (text-there m line f n e, text-shut-there m line f n e, part-all, f, first-lines m (omega (arith, some))) (items-says (wholeAwareness (opened (take (lineSize m) m))) (closed (take (lineSize m) m)) (drop (lineStep m) m))
+  remarks-says : below (itemsAnswer (wholeAwareness (take n m))) (ltb n (line .size)) (take (length m - line .next) (drop (line .next) m)) ≡ remarksAnswer (readRemarks (more (lines m)))
+  remarks-says = rw (text-there m line f n e, text-shut-there m line f n e, part-all, f) (first-says m)
 
   -- either the tail is refused, or it stands behind the items
-  module _ (some : length m ≡ 0 → ⊥) {r : ItemsRead} (x : r ≡ itemsAnswer (wholeAwareness (take n m))) {t : Tail} (y : t ≡ itemsStep (r .fits) (r .count) (ltb n (line .size)) (take (length m - line .next) (drop (line .next) m))) where
+  module _ {r : ItemsRead} (x : r ≡ itemsAnswer (wholeAwareness (take n m))) {t : Tail} (y : t ≡ itemsStep (r .fits) (r .count) (ltb n (line .size)) (take (length m - line .next) (drop (line .next) m))) where
     both : joined r t ≡ remarksAnswer (readRemarks (more (lines m)))
-    both = rw (y, x) (remarks-says some)
+    both = rw (y, x) remarks-says
 
     pub tail-refused : (t .refusal ≡ 0 → ⊥) → noRemarks (t .refusal) ≡ remarksAnswer (readRemarks (more (lines m)))
     unfolding joined

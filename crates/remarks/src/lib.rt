@@ -236,9 +236,6 @@ pub fn read_remarks(closed: bool, m: &[u8]) -> RemarksRead
     if closed {
         return no_remarks(0);
     }
-    if m.len() == 0 {
-        return no_remarks(4);
-    }
     let line = first_line(m);
     let size = line.size;
     let next = line.next;

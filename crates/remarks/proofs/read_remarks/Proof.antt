@@ -2,7 +2,7 @@ use mathlib.Core.Path.{_∙_}
 use native.Mathlib.Omega.{arith}
 use lib.ListN.{length-take}
 use Rattle.text.specs.Laws.Lines.{first-within}
-use Rattle.remarks.proofs.Steps.{nothing-below, text-within, tail-refused, tail-joined}
+use Rattle.remarks.proofs.Steps.{text-within, tail-refused, tail-joined}
 use borrow.Author.Needs.{needs}
 use Rattle.remarks.proofs.read_remarks.Statement.{statement}
 use Rattle.remarks.proofs.read_remarks.Tie as tie
@@ -13,19 +13,11 @@ no-remarks-requires c κs = search needs
 returns : tie.Need-returns
 returns c = rw (c .before .if1 .taken) (c .no-remarks .ensures)
 
-no-remarks-requires-2 : tie.Need-no-remarks-requires-2
-no-remarks-requires-2 c κs = search needs
-
-returns-2 : tie.Need-returns-2
-returns-2 c =
-    let l = c .before .before in
-    rw (l .if1 .left) (c .no-remarks2 .ensures ∙ nothing-below (l .before .before .args .m .now) (c .before .if2 .taken))
-
 first-line-requires : tie.Need-first-line-requires
 first-line-requires c κs = search needs
 
 slice-aggregate-text-size : tie.Need-slice-aggregate-text-size
-slice-aggregate-text-size c = let w = first-within (c .before .before .before .before .before .args .m .now) (c .before .first-line .ensures) in rw length-take (omega arith)
+slice-aggregate-text-size c = let w = first-within (c .before .before .before .before .args .m .now) (c .before .first-line .ensures) in rw length-take (omega arith)
 
 text-size-requires : tie.Need-text-size-requires
 text-size-requires c κs = search needs
@@ -33,7 +25,7 @@ text-size-requires c κs = search needs
 slice-aggregate-read-awareness : tie.Need-slice-aggregate-read-awareness
 slice-aggregate-read-awareness c =
     let p = c .before .before .before in
-    let m = p .before .before .before .before .args .m .now in
+    let m = p .before .before .before .args .m .now in
     let w = first-within m (p .first-line .ensures) in
     let t = text-within m (p .first-line .result) (p .first-line .ensures) (c .before .text-size .result) (c .before .text-size .ensures) in
     rw length-take (omega arith)
@@ -44,12 +36,12 @@ read-awareness-requires c κs = search needs
 sub-items-step : tie.Need-sub-items-step
 sub-items-step c =
     let p = c .before .before .before .before in
-    omega (arith, first-within (p .before .before .before .before .args .m .now) (p .first-line .ensures) .1)
+    omega (arith, first-within (p .before .before .before .args .m .now) (p .first-line .ensures) .1)
 
 part-items-step-start : tie.Need-part-items-step-start
 part-items-step-start c =
     let p = c .before .before .before .before in
-    omega (arith, first-within (p .before .before .before .before .args .m .now) (p .first-line .ensures) .1)
+    omega (arith, first-within (p .before .before .before .args .m .now) (p .first-line .ensures) .1)
 
 part-items-step-end : tie.Need-part-items-step-end
 part-items-step-end c = search needs
@@ -57,26 +49,26 @@ part-items-step-end c = search needs
 items-step-requires : tie.Need-items-step-requires
 items-step-requires c κs = search needs
 
-no-remarks-requires-3 : tie.Need-no-remarks-requires-3
-no-remarks-requires-3 c κs = search needs
+no-remarks-requires-2 : tie.Need-no-remarks-requires-2
+no-remarks-requires-2 c κs = search needs
 
-returns-3 : tie.Need-returns-3
-returns-3 c =
+returns-2 : tie.Need-returns-2
+returns-2 c =
     let q = c .before .before .before in
     let s = q .before .before .before .before in
     let p = s .before .before in
-    let l = p .before .before in
+    let l = p .before in
     let m = l .before .before .args .m .now in
-    rw (l .if1 .left) (c .no-remarks3 .ensures ∙ tail-refused m (p .first-line .result) (p .first-line .ensures) (s .text-size .result) (s .text-size .ensures) (p .before .if2 .left) (q .before .before .read-awareness .ensures) (q .items-step .ensures) (c .before .if3 .taken))
+    rw (l .if1 .left) (c .no-remarks2 .ensures ∙ tail-refused m (p .first-line .result) (p .first-line .ensures) (s .text-size .result) (s .text-size .ensures) (q .before .before .read-awareness .ensures) (q .items-step .ensures) (c .before .if2 .taken))
 
-returns-4 : tie.Need-returns-4
-returns-4 c =
+returns-3 : tie.Need-returns-3
+returns-3 c =
     let q = c .before .before .before .before in
     let s = q .before .before .before .before in
     let p = s .before .before in
-    let l = p .before .before in
+    let l = p .before in
     let m = l .before .before .args .m .now in
-    rw (l .if1 .left) (tail-joined m (p .first-line .result) (p .first-line .ensures) (s .text-size .result) (s .text-size .ensures) (p .before .if2 .left) (q .before .before .read-awareness .ensures) (q .items-step .ensures) (c .before .before .if3 .left))
+    rw (l .if1 .left) (tail-joined m (p .first-line .result) (p .first-line .ensures) (s .text-size .result) (s .text-size .ensures) (q .before .before .read-awareness .ensures) (q .items-step .ensures) (c .before .before .if2 .left))
 
 pub read-remarks-spec : {M : Type 1} → statement M
 read-remarks-spec =
@@ -84,8 +76,6 @@ read-remarks-spec =
     (tie.spec
     no-remarks-requires
     returns
-    no-remarks-requires-2
-    returns-2
     first-line-requires
     slice-aggregate-text-size
     text-size-requires
@@ -95,6 +85,6 @@ read-remarks-spec =
     part-items-step-start
     part-items-step-end
     items-step-requires
-    no-remarks-requires-3
-    returns-3
-    returns-4)
+    no-remarks-requires-2
+    returns-2
+    returns-3)
