@@ -4,3 +4,4 @@ pub mod Step
 pub mod Demand
 pub mod Writing
 pub mod Line
+pub mod Desk

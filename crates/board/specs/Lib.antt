@@ -1,4 +1,4 @@
--- Definitions first; then what is shown of them, Theorems (demand 3) and Desk (its lines), and the laws that this rests on; tables that the checker evaluates.
+-- Definitions first; then what is shown of them, Theorems (demand 3) and Laws, of which Desk tells what its lines mean; tables that the checker evaluates.
 pub mod Board
 pub mod Report
 pub mod Line
@@ -6,5 +6,4 @@ pub mod Writing
 pub mod Shows
 pub mod Laws
 pub mod Theorems
-pub mod Desk
 pub mod Tables

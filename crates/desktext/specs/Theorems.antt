@@ -13,7 +13,7 @@ use Rattle.text.specs.Put.{Put}
 use Rattle.text.specs.Laws.Put.{whole-put}
 use Rattle.text.specs.Laws.Sizes.{size, number-size}
 use Rattle.board.specs.declared.Board.{Board}
-use Rattle.board.specs.Desk.{shown-size}
+use Rattle.board.specs.Laws.Desk.{shown-size}
 use Rattle.board.specs.Line.{openingLine, reportLine}
 use Rattle.board.specs.Report.{rowAt}
 use Rattle.desktext.specs.Desk.{printed, answerLine, shownRows, answersText, refusedText, linesText, deskText}

@@ -2,13 +2,12 @@
 use Prim.Native.Nat.{ℕ, zero, suc, _≤_}
 use mathlib.Core.Path.{_≡_}
 use mathlib.Core.List.{List, [], _∷_, _++_}
-use mathlib.Core.Bool.{true}
 use lib.Dec.{eqb, ltb}
 use lib.ListN.{length, drop}
 use Rattle.text.specs.Choice.{pick}
 use Rattle.text.specs.Piece.{canonical}
-use Rattle.text.specs.Lines.{lines, lineStep, linesSize}
-use Rattle.text.specs.Read.{Got, misfit, got, readAs, whole}
+use Rattle.text.specs.Lines.{lines, linesSize}
+use Rattle.text.specs.Read.{Got, readAs, whole}
 use Rattle.heading.specs.declared.Addresses.{Addresses}
 use Rattle.heading.specs.declared.Filing.{Filing}
 use Rattle.heading.specs.declared.Title.{Title}

@@ -3,12 +3,11 @@ use Prim.Native.Nat.{ℕ}
 use Prim.Native.String.{String}
 use mathlib.Core.Path.{_≡_, refl}
 use mathlib.Core.List.{List, [], _∷_, _++_, map}
-use mathlib.Core.Bool.{true, false}
 use lib.Dec.{lit≤}
 use lib.ListN.{replicate}
 use Rattle.text.specs.Choice.{_and_}
 use Rattle.text.specs.Piece.{bytes, spell}
-use Rattle.text.specs.Read.{Got, misfit, got, skip, readText, readMany}
+use Rattle.text.specs.Read.{Got, got, skip, readText, readMany}
 use Rattle.text.specs.Names.{readCount, readName}
 use Rattle.text.specs.Numbers.{digits, readDigits}
 use Rattle.text.specs.Arrays.{slots, pastSlots, flat}

@@ -5,7 +5,7 @@ use mathlib.Core.List.{[], _∷_}
 use mathlib.Core.Bool.{Bool, true, false}
 use native.Mathlib.Omega.{arith}
 use lib.Dec.{eqb, leb}
-use borrow.Author.Tests.{eqb-true, leb-true, leb-false}
+use borrow.Author.Tests.{eqb-true, leb-true}
 use Rattle.text.specs.Choice.{pick, _and_}
 use Rattle.text.specs.Laws.Base.{and-1, and-2, true-false}
 use Rattle.surface.specs.declared.Third.{Third}

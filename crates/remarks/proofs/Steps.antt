@@ -15,7 +15,7 @@ use Rattle.text.specs.Lines.{lines, lineSize, lineStep, closed, front, opened}
 use Rattle.text.specs.declared.Line.{Line}
 use Rattle.text.specs.Laws.Arrays.{take-front}
 use Rattle.text.specs.Laws.Held.{part-all}
-use Rattle.text.specs.Laws.Lines.{lines-first, front-part, closed-is, first-lines, first-within}
+use Rattle.text.specs.Laws.Lines.{lines-first, front-part, closed-is, first-within}
 use Rattle.items.specs.declared.Item.{Item}
 use Rattle.items.specs.Awareness.{readAwareness, wholeAwareness}
 use Rattle.items.specs.Language.{wholeLanguage}

@@ -1,8 +1,6 @@
 -- The answers below the rows, evaluated: each refusal, and blank where there is one.
-use Prim.Native.Nat.{ℕ}
-use Prim.Native.String.{String}
 use mathlib.Core.Path.{_≡_, refl}
-use mathlib.Core.List.{List, [], _∷_, _++_, map}
+use mathlib.Core.List.{[], _∷_, _++_, map}
 use mathlib.Core.Bool.{true, false}
 use lib.ListN.{replicate}
 use Rattle.text.specs.Choice.{_and_}
