@@ -10,7 +10,7 @@ The first form tries COUNT random ones. Run it in a copy of the tree that is pro
 puts them back. An edit is tried on its crate, and, where that still proves, on the crates above it in the order of crates.txt.
 
 The second form tries every edit of every definition, a numeral both ways and a text letter by letter, against the laws and the
-tables alone: it writes the tree without its functions and their proofs to DIR, checks that, and edits it there. So it is told
+tables alone: it writes the tree without its functions and their proofs to DIR, which must be new, checks that, and edits it there. So it is told
 whether a law or a table refuses an edit, whatever the code would say. PART/PARTS tries a share of them, for several at a time.
 
 A row of a table is printed for each: the place, the edit, and where it was refused with the first error; an edit that no crate
@@ -159,8 +159,9 @@ def without_functions(code):
 
 
 def bare_tree(root):
-    """Writes the libraries without their functions and the proofs of these."""
-    shutil.rmtree(root, ignore_errors=True)
+    """Writes the libraries without their functions and the proofs of these, to a directory that is not there yet."""
+    if root.exists():
+        sys.exit(f"{root} is there already")
     for crate in [name for name in crates(ROOT) if (ROOT / "crates" / name / "specs").is_dir()]:
         base = pathlib.Path("crates") / crate
         shutil.copytree(ROOT / base / "specs", root / base / "specs")

@@ -47,7 +47,7 @@ pub record Fronts : Type 0 where
   third : line 2 "SWXQ0007 XQAA 01120640" ≡ got (withHeading blankFront (record { title = title; time = 1120640 })) []
   fourth : line 3 "(SNOWTAM 0007" ≡ got (withSerial blankFront 7) []
   fifth : line 4 "XQAA" ≡ got (withAerodrome blankFront (bytes "XQAA")) []
-  -- "2 for lines 1 and 2, 3 for line 3, 4 for lines 4 and 5"
+  -- "A missing line 1 or 2 gives 2, a missing line 3 gives 3, any later one 4", and so does a line that does not fit
   refusals : map lineRefusal (0 ∷ 1 ∷ 2 ∷ 3 ∷ 4 ∷ []) ≡ 2 ∷ 2 ∷ 3 ∷ 4 ∷ 4 ∷ []
   all-lines : read (message ++ (10 ∷ bytes "0112")) ≡ taken (full, bytes "0112" ∷ [])
   missing : map read ([] ∷ bytes "GG XQAAYNYX" ∷ (bytes "GG XQAAYNYX" ++ (10 ∷ bytes "120645 XQAAYNYX")) ∷ []) ≡ refuse 2 ∷ refuse 2 ∷ refuse 3 ∷ []
