@@ -40,9 +40,9 @@ enum phengaryl_refusal {
     PHENGARYL_LINE_3 = 3,                /* line 3 (the heading) is missing or wrong */
     PHENGARYL_LINE_4_OR_5 = 4,           /* line 4 or 5 is wrong, there is no row, a line or the closing ) is missing, or bytes follow the end */
     PHENGARYL_ROW = 5,                   /* a runway row breaks its own rules; at the desk: the line is no row */
-    PHENGARYL_NINTH_ROW = 6,             /* a ninth line stands where only eight rows may */
+    PHENGARYL_NINTH_ROW = 6,             /* a ninth line that is not empty stands where only eight rows may */
     PHENGARYL_RUNWAY_TWICE = 7,          /* the same runway is reported twice */
-    PHENGARYL_AWARENESS = 8,             /* the awareness line: an item is wrong, out of order, repeated, one too many, or the line is empty */
+    PHENGARYL_AWARENESS = 8,             /* the awareness line: an item is wrong, out of order, repeated, one too many, or the line is empty before the closing ) */
     PHENGARYL_PLAIN_LANGUAGE = 9,        /* the plain language is wrong */
     PHENGARYL_SERIALS_DIFFER = 10,       /* the two serials differ */
     PHENGARYL_AERODROMES_DIFFER = 11,    /* the two aerodromes differ */

@@ -19,7 +19,6 @@ use Rattle.items.specs.ItemText.{itemText, itemPieces}
 use Rattle.items.specs.ReadItem.{readLength, readBank, readNeither, readDetail, readTaxiway, readTaxiways, readApron, readRunwayForm, readTaxiForm, readApronForm, readBareForm, readForm, readBody, readItem, bareItem, taxiItem, apronItem, runwayItem}
 use Rattle.items.specs.Awareness.{sameRunway, otherApron, mayRepeat, mayFollow, inOrder, soundItems, readAwareness, wholeAwareness, awarenessPieces, isBlank, noNumbers, isBlankItem, validItemArray}
 use Rattle.items.specs.Language.{lastIs, validLanguage, validLanguageArray}
-use Rattle.items.specs.Held.{languageAnswer}
 
 -- the line is taken
 abbrev taken : String → Bool
@@ -154,7 +153,3 @@ plain-held : (validLanguageArray 400 (replicate 399 65 ++ bytes ".") ≡ true) �
     × (validLanguageArray 2 (bytes "A." ++ replicate 398 0) ≡ true) × (validLanguageArray 2 (bytes "A." ++ (replicate 397 0 ++ (1 ∷ []))) ≡ false)
 unfolding isMark validLanguage validLanguageArray lastIs _and_
 plain-held = (refl, refl, refl, refl)
-
--- as it is answered: zeros past the length, and a misfit is all zero
-plain-answers : (languageAnswer misfit ≡ record { fits = false; length = 0; bytes = replicate 400 0 }) × (languageAnswer (got (bytes "A.") []) ≡ record { fits = true; length = 2; bytes = bytes "A." ++ replicate 398 0 })
-plain-answers = (refl, refl)

@@ -10,8 +10,8 @@ ghost use Rattle.text.specs.Put.{Put};
 ghost use Rattle.text.specs.Arrays.{slots};
 ghost use Rattle.items.specs.Item.{letters, onRunway, highestRunway, isBetween, runwayFits, amountFits, edgeFits, countFits, validSlot, isNew, slotsFit, taxiwaysFit, nameFits, numbersFit, validItem};
 ghost use Rattle.items.specs.Awareness.{sameRunway, otherApron, mayRepeat, mayFollow, soundItems, isBlank, noNumbers, blankItem, isBlankItem, validItemArray};
-ghost use Rattle.items.specs.Language.{validLanguage, wholeLanguage, validLanguageArray};
-ghost use Rattle.items.specs.Held.{SlotEnd, languageAnswer};
+ghost use Rattle.items.specs.Language.{validLanguage, validLanguageArray};
+ghost use Rattle.items.specs.Held.{SlotEnd};
 use runway::valid_runway;
 use text::CAPITALS_AND_DIGITS;
 use text::LETTERS;
@@ -39,13 +39,6 @@ pub struct Item {
     pub taxiways: [u8; 24],
     // R: the apron's name; none is ALL APRON
     pub name: [u8; 16],
-}
-
-// Plain language as it was read: its length, and its bytes with zeros behind them.
-pub struct LanguageRead {
-    pub fits: bool,
-    pub length: u16,
-    pub bytes: [u8; 400],
 }
 
 const MOST_TAXIWAYS: u8 = 8;
@@ -484,27 +477,6 @@ pub fn valid_language(part: &[u8]) -> bool
         return part[n - 1] == b'.';
     }
     false
-}
-
-// Plain language that is the whole of a part, with zeros behind it.
-pub fn read_language(part: &[u8]) -> LanguageRead
-    ensures { λ r. ⌜ r ≡ languageAnswer (wholeLanguage (now (part .entry))) ⌝ }
-{
-    let mut bytes = [0u8; 400];
-    if valid_language(part) {
-        put(&mut bytes, 0, part);
-        LanguageRead {
-            fits: true,
-            length: part.len() as u16,
-            bytes,
-        }
-    } else {
-        LanguageRead {
-            fits: false,
-            length: 0,
-            bytes,
-        }
-    }
 }
 
 // The plain language of a record: its first bytes, and zeros past the length.

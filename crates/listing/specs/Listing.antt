@@ -6,7 +6,7 @@ use Rattle.text.specs.Choice.{pick}
 use Rattle.text.specs.Piece.{bytes, canonical}
 use Rattle.text.specs.Numbers.{number}
 use Rattle.row.specs.declared.Row.{Row}
-use Rattle.row.specs.Agreement.{agreement}
+use Rattle.row.specs.Agreement.{disagreements}
 use Rattle.body.specs.Rows.{rowsOf}
 use Rattle.notice.specs.declared.Record.{Record}
 use Rattle.notice.specs.declared.Reading.{Reading}
@@ -16,7 +16,7 @@ use Rattle.notice.specs.Reading.{reading}
 -- "disagreeing thirds", those of all rows together
 unfoldable pub disagreeingThirds : List Row → ℕ
 disagreeingThirds [] = 0
-disagreeingThirds (r ∷ rs) = agreement r .count + disagreeingThirds rs
+disagreeingThirds (r ∷ rs) = disagreements (r .thirds) + disagreeingThirds rs
 
 -- a space, and a number in one digit or two
 unfoldable pub counted : ℕ → List ℕ

@@ -16,7 +16,7 @@ use Rattle.surface.specs.Descriptions.{isContaminant, isDeep}
 use Rattle.surface.specs.Table1.{table1, isShallow, firstLine, canHold, allows, agrees}
 use Rattle.surface.specs.Third.{isCoverage, validCoverage, leastDepth, isReported, validDepth, validThird}
 use Rattle.thirds.specs.Groups.{measurePieces, readMeasure, readCoverage, readDescription, thirdPieces, readThird, highest, readGroup}
-use Rattle.row.specs.Agreement.{disagrees, disagreements, agreement}
+use Rattle.row.specs.Agreement.{disagrees, disagreements}
 use Rattle.row.specs.Reading.{readFull, readShort, readWidth, readRow}
 use Rattle.row.specs.Row.{threeThat, validRow, isBare, isSix, isDry, isShort, middlePieces, widthPieces, rowPieces}
 use Rattle.heading.specs.Addresses.{addressesPieces, readAddresses}
@@ -48,5 +48,5 @@ pub record Tables : Type 0 where
   long : map listing (spaces 4096 ∷ spaces 4097 ∷ []) ≡ message ("REFUSED 2" ∷ []) ∷ message ("REFUSED 1" ∷ []) ∷ []
 
 pub tables : Tables
-unfolding slots flat _and_ lines closed front ended run past isMark readCount readName readDigits digits spell skip readText readMany validRunway isShortMonth daysOf realDay realClock realTime later isContaminant isDeep isCoverage validCoverage leastDepth isReported validDepth validThird measurePieces readMeasure readCoverage readDescription thirdPieces readThird highest readGroup readFull readShort readWidth readRow threeThat validRow isBare isSix isDry isShort middlePieces widthPieces rowPieces addressesPieces readAddresses realFiling filingPieces readFiling headingPieces readHeading serialPieces readSerialLine aerodromePieces readAerodrome isLetters sameRunway otherApron mayRepeat mayFollow inOrder awarenessPieces readAwareness wholeAwareness onRunway onTaxiways runwayFits amountFits edgeFits countFits isTaxiway validSlot isNew slotsFit taxiwaysFit nameFits numbersFit validItem itemText itemPieces lastIs validLanguage wholeLanguage readLength readBank readNeither readDetail readTaxiway readTaxiways readApron readRunwayForm readTaxiForm readApronForm readBareForm readForm readBody readItem isAmong newRunways latestOf latestFrom latest readRows noticeLines notice noticeText agreeing readNotice reading Rows.sameRunway table1 isShallow firstLine canHold allows agrees disagrees disagreements agreement disagreeingThirds counted acceptedLine refusedLine listed listing
+unfolding slots flat _and_ lines closed front ended run past isMark readCount readName readDigits digits spell skip readText readMany validRunway isShortMonth daysOf realDay realClock realTime later isContaminant isDeep isCoverage validCoverage leastDepth isReported validDepth validThird measurePieces readMeasure readCoverage readDescription thirdPieces readThird highest readGroup readFull readShort readWidth readRow threeThat validRow isBare isSix isDry isShort middlePieces widthPieces rowPieces addressesPieces readAddresses realFiling filingPieces readFiling headingPieces readHeading serialPieces readSerialLine aerodromePieces readAerodrome isLetters sameRunway otherApron mayRepeat mayFollow inOrder awarenessPieces readAwareness wholeAwareness onRunway onTaxiways runwayFits amountFits edgeFits countFits isTaxiway validSlot isNew slotsFit taxiwaysFit nameFits numbersFit validItem itemText itemPieces lastIs validLanguage wholeLanguage readLength readBank readNeither readDetail readTaxiway readTaxiways readApron readRunwayForm readTaxiForm readApronForm readBareForm readForm readBody readItem isAmong newRunways latestOf latestFrom latest readRows noticeLines notice noticeText agreeing readNotice reading Rows.sameRunway table1 isShallow firstLine canHold allows agrees disagrees disagreements disagreeingThirds counted acceptedLine refusedLine listed listing
 tables = record { accepted = refl; refused = refl; long = refl }

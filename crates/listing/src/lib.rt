@@ -8,7 +8,7 @@ use body::Rows;
 use notice::Record;
 use notice::put_notice;
 use notice::read;
-use row::disagreeing;
+use row::disagreements;
 use text::place;
 use text::put;
 use text::put_number;
@@ -28,8 +28,7 @@ fn disagreeing_thirds(r: Rows) -> u8
             return n;
         }
         let row = rows[i as usize];
-        let a = disagreeing(row);
-        n += a.count;
+        n += disagreements(row);
         i += 1;
     }
     n

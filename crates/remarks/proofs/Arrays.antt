@@ -1,11 +1,12 @@
 -- What stands below the rows: one law for each case of the code.
 use Prim.Native.Nat.{ℕ, zero, suc, _+_, _<_, _≤_}
-use mathlib.Core.Path.{_≡_, refl}
+use mathlib.Core.Path.{_≡_, refl, _∙_}
 use mathlib.Core.List.{List, [], _∷_, _++_, append-nil}
 use mathlib.Core.Bool.{true, false}
 use native.Mathlib.Omega.{arith}
 use lib.Dec.{eqb}
-use lib.ListN.{length, take, drop, length-take}
+use lib.ListN.{length, take, drop, replicate, length-take}
+use lib.Seq.{sets}
 use borrow.Author.Tests.{eq-eqb, ne-eqb, le-leb}
 use Rattle.text.specs.Choice.{_and_, all, isEmpty}
 use Rattle.text.specs.Arrays.{isZero}
@@ -18,8 +19,8 @@ use Rattle.items.specs.Awareness.{mostItems, validItems, awarenessPieces, valid
 use Rattle.items.specs.Language.{mostLanguage, validLanguageArray}
 use Rattle.body.specs.declared.Items.{Items}
 use Rattle.body.specs.declared.Language.{Language}
-use Rattle.body.specs.Remarks.{itemsOf, languageOf, holdsItems, noneOrLanguage, holdsLanguage, languageLines, remarkLines}
-use Rattle.text.specs.Laws.Put.{nothing-put}
+use Rattle.body.specs.Remarks.{itemsOf, languageOf, makeLanguage, holdsItems, noneOrLanguage, holdsLanguage, languageLines, remarkLines}
+use Rattle.text.specs.Laws.Put.{over-zeros, nothing-put}
 
 -- the first n of an array are none exactly if n is 0
 pub none-taken : {A : Type 0} (n : ℕ) (l : List A) → 0 < length l → isEmpty (take n l) ≡ eqb n 0
@@ -42,6 +43,10 @@ module _ (l : Language) (e : length (l .bytes) ≡ mostLanguage) where
   pub language-array : (l .length ≡ 0 → ⊥) → validLanguageArray (l .length) (l .bytes) ≡ holdsLanguage l
   unfolding validLanguageArray holdsLanguage noneOrLanguage _and_
   language-array z = rw (eq-eqb (length (l .bytes)) mostLanguage e, none-taken (l .length) (l .bytes) (omega arith), ne-eqb (l .length) 0 z)
+
+-- plain language that was put over zeros
+pub language-put-in : (l b : List ℕ) → length l ≤ 400 → b ≡ sets (replicate 400 0) 0 l → record { length = length l; bytes = b } ≡ makeLanguage l
+language-put-in l b h e = let q = e ∙ over-zeros 0 400 l h in λ j. record { length = length l; bytes = q j }
 
 -- nothing stands below the rows exactly if both counts are 0
 pub nothing-said : (i : Items) (l : Language) → 0 < length (i .items) → 0 < length (l .bytes) → (isEmpty (itemsOf i) and isEmpty (languageOf l)) ≡ (eqb (i .count) 0 and eqb (l .length) 0)

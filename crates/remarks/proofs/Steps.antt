@@ -1,15 +1,15 @@
 -- The steps of reading what stands below the rows are the steps of its definition.
-use Prim.Native.Nat.{ℕ, suc, _-_, _<_, _≤_}
+use Prim.Native.Nat.{ℕ, suc, _+_, _-_, _<_, _≤_}
 use mathlib.Core.Path.{_≡_, refl, sym, _∙_, ap}
 use mathlib.Core.List.{List, [], _∷_}
 use mathlib.Core.Bool.{Bool, true, false}
 use native.Mathlib.Omega.{arith}
-use lib.Dec.{ltb}
+use lib.Dec.{eqb, ltb}
 use lib.ListN.{length, take, drop, length-take, length-drop, length-append}
 use lib.Seq.{take-all, take-take, length-take-le}
 use borrow.Author.Tests.{ne-eqb, lt-ltb, le-ltb}
 use Rattle.text.specs.Choice.{pick, isEmpty}
-use Rattle.text.specs.Read.{Got, misfit, got}
+use Rattle.text.specs.Read.{Got, misfit, got, guard}
 use Rattle.text.specs.Held.{firstLine}
 use Rattle.text.specs.Lines.{lines, lineSize, lineStep, closed, front, opened}
 use Rattle.text.specs.declared.Line.{Line}
@@ -18,10 +18,11 @@ use Rattle.text.specs.Laws.Held.{part-all}
 use Rattle.text.specs.Laws.Lines.{lines-first, front-part, closed-is, first-within}
 use Rattle.items.specs.declared.Item.{Item}
 use Rattle.items.specs.Awareness.{readAwareness, wholeAwareness}
-use Rattle.items.specs.Language.{wholeLanguage}
-use Rattle.items.specs.Held.{languageAnswer}
+use Rattle.items.specs.Language.{validLanguage, wholeLanguage}
+use Rattle.items.specs.Laws.Language.{language-short}
 use Rattle.awareness.specs.declared.ItemsRead.{ItemsRead}
 use Rattle.awareness.specs.Held.{itemsAnswer}
+use Rattle.body.specs.declared.Language.{Language}
 use Rattle.text.specs.Out.{refuse, fit, atEnd}
 use Rattle.body.specs.Rows.{more}
 use Rattle.body.specs.Remarks.{makeLanguage, remarks, readLanguageLine, readRemarks}
@@ -68,38 +69,45 @@ module _ (m : List ℕ) (line : Line) (f : line ≡ firstLine m) (n : ℕ) (e : 
   text-shut-there : ltb n (line .size) ≡ closed (take (lineSize m) m)
   text-shut-there = rw e (ap (ltb (length (opened (take (line .size) m)))) (sym line-size) ∙ text-shut (take (line .size) m) ∙ rw f)
 
+-- the text of the first line stands at the front of the message
+text-first : (m : List ℕ) → take (length (opened (take (lineSize m) m))) m ≡ opened (take (lineSize m) m)
+text-first m = text-there m (firstLine m) refl _ refl
+
 -- behind items that fit
 module _ (is : List Item) (k : List ℕ) where
-  end-says : (t rest : List ℕ) → joined (itemsAnswer (got is k)) (ending (makeLanguage t) (length rest)) ≡ remarksAnswer (atEnd (lines rest) (remarks is t))
+  -- the plain language t stands at the front of m
+  end-says : (t m rest : List ℕ) → take (length t) m ≡ t → joined (itemsAnswer (got is k)) (ending (length t) (length rest)) m ≡ remarksAnswer (atEnd (lines rest) (remarks is t))
   unfolding joined ending lines
-  end-says t [] = refl
-  end-says t (x ∷ m) = rw (ne-eqb (suc (length m)) 0 (omega arith), lines-first x m)
+  end-says t m [] e = rw e
+  end-says t m (x ∷ r) e = rw (ne-eqb (suc (length r)) 0 (omega arith), lines-first x r)
 
-  closed-says : (c : Bool) (g : Got (List ℕ)) (rest : List ℕ)
-      → joined (itemsAnswer (got is k)) (pick c (lastLanguage (languageAnswer g) (length rest)) (noTail 4)) ≡ remarksAnswer (pick c (fit 9 g (λ p. atEnd (lines rest) (remarks is p))) (refuse 4))
-  unfolding joined lastLanguage
-  closed-says false g rest = refl
-  closed-says true misfit rest = refl
-  closed-says true (got t j) rest = end-says t rest
+  closed-says : (c : Bool) (t m rest : List ℕ) → take (length t) m ≡ t
+      → joined (itemsAnswer (got is k)) (pick c (lastLanguage t (length rest)) (noTail 4)) m ≡ remarksAnswer (pick c (fit 9 (wholeLanguage t) (λ p. atEnd (lines rest) (remarks is p))) (refuse 4))
+  unfolding joined lastLanguage wholeLanguage
+  closed-says false t m rest e = refl
+  closed-says true t m rest e = go (validLanguage t)
+    where
+      go : (v : Bool) → joined (itemsAnswer (got is k)) (pick v (ending (length t) (length rest)) (noTail 9)) m ≡ remarksAnswer (fit 9 (guard v (got t [])) (λ p. atEnd (lines rest) (remarks is p)))
+      go true = end-says t m rest e
+      go false = refl
 
-  language-says : (m : List ℕ) → joined (itemsAnswer (got is k)) (nextLanguage m) ≡ remarksAnswer (readLanguageLine is (lines m))
+  language-says : (m : List ℕ) → joined (itemsAnswer (got is k)) (nextLanguage m) m ≡ remarksAnswer (readLanguageLine is (lines m))
   unfolding joined nextLanguage lines lineSize closed
   language-says [] = refl
   language-says (x ∷ m) =
-      let l = take (lineSize (x ∷ m)) (x ∷ m) in
       let rest = drop (lineStep (x ∷ m)) (x ∷ m) in
-      rw (← length-drop (lineStep (x ∷ m)) (x ∷ m), lines-first x m) (closed-says (closed l) (wholeLanguage (opened l)) rest)
+      rw (← length-drop (lineStep (x ∷ m)) (x ∷ m), lines-first x m) (closed-says (closed (take (lineSize (x ∷ m)) (x ∷ m))) (opened (take (lineSize (x ∷ m)) (x ∷ m))) (x ∷ m) rest (text-first (x ∷ m)))
 
 -- the items and what stands behind them, as they are answered
-abbrev pub below : ItemsRead → Bool → List ℕ → RemarksRead
-below r c rest = joined r (itemsStep (r .fits) (r .count) c rest)
+abbrev below : ItemsRead → Bool → List ℕ → RemarksRead
+below r c rest = joined r (itemsStep (r .fits) (r .count) c rest) rest
 
 items-says : (g : Got (List Item)) (c : Bool) (rest : List ℕ)
     → below (itemsAnswer g) c rest ≡ remarksAnswer (fit 8 g (λ is. pick c (pick (isEmpty is) (refuse 8) (atEnd (lines rest) (remarks is []))) (readLanguageLine is (lines rest))))
 unfolding joined itemsStep lastItems
 items-says misfit c rest = refl
 items-says (got [] j) true rest = refl
-items-says (got (i ∷ is) j) true rest = rw (ne-eqb (suc (length is)) 0 (omega arith)) (end-says (i ∷ is) j [] rest)
+items-says (got (i ∷ is) j) true rest = rw (ne-eqb (suc (length is)) 0 (omega arith)) (end-says (i ∷ is) j [] rest rest refl)
 items-says (got is j) false rest = language-says is j rest
 
 -- the first line of what is left; where nothing is left it is empty, and so is the line behind it
@@ -108,9 +116,37 @@ unfolding joined itemsStep nextLanguage lines lineSize lineStep closed wholeAwar
 first-says [] = refl
 first-says (x ∷ m) = rw (lines-first x m) (items-says (wholeAwareness (opened (take (lineSize (x ∷ m)) (x ∷ m)))) (closed (take (lineSize (x ∷ m)) (x ∷ m))) (drop (lineStep (x ∷ m)) (x ∷ m)))
 
+-- a tail's plain language stands in what is left, and its array takes it
+record Kept (rest : List ℕ) (t : Tail) : Type 0 where
+  inside : t .size ≤ length rest
+  short : t .size ≤ 400
+
+none-kept : (rest : List ℕ) (n : ℕ) → Kept rest (noTail n)
+none-kept rest n = record { inside = omega arith; short = omega arith }
+
+pick-kept : {rest : List ℕ} {t u : Tail} (b : Bool) → (b ≡ true → Kept rest t) → Kept rest u → Kept rest (pick b t u)
+pick-kept true h k = h refl
+pick-kept false h k = k
+
+ending-kept : (rest : List ℕ) (n left : ℕ) → n ≤ length rest → n ≤ 400 → Kept rest (ending n left)
+unfolding ending
+ending-kept rest n left h k = pick-kept (eqb left 0) (λ _. record { inside = h; short = k }) (none-kept rest 4)
+
+language-kept : (m : List ℕ) → Kept m (nextLanguage m)
+unfolding nextLanguage lastLanguage
+language-kept m =
+    let l = opened (take (lineSize m) m) in
+    let w : length l ≤ length m = omega (arith, simp length-take at (ap length (text-first m))) in
+    pick-kept (closed (take (lineSize m) m)) (λ _. pick-kept (validLanguage l) (λ v. ending-kept m (length l) _ w (language-short l v)) (none-kept m 9)) (none-kept m 4)
+
+tail-kept : (fits : Bool) (count : ℕ) (c : Bool) (rest : List ℕ) → Kept rest (itemsStep fits count c rest)
+unfolding itemsStep lastItems
+tail-kept fits count c rest =
+    pick-kept fits (λ _. pick-kept c (λ _. pick-kept (eqb count 0) (λ _. none-kept rest 8) (ending-kept rest 0 (length rest) (omega arith) (omega arith))) (language-kept rest)) (none-kept rest 8)
+
 -- the answers of the code
 module _ (m : List ℕ) (line : Line) (f : line ≡ firstLine m) (n : ℕ) (e : n ≡ length (opened (take (line .size) m))) where
-  pub language-closed : n < line .size → nextLanguage m ≡ lastLanguage (languageAnswer (wholeLanguage (take n m))) (length m - line .next)
+  pub language-closed : n < line .size → nextLanguage m ≡ lastLanguage (take n m) (length m - line .next)
   unfolding nextLanguage
   language-closed h = rw (← text-there m line f n e, ← text-shut-there m line f n e, lt-ltb n (line .size) h, f)
 
@@ -118,18 +154,41 @@ module _ (m : List ℕ) (line : Line) (f : line ≡ firstLine m) (n : ℕ) (e : 
   unfolding nextLanguage
   language-open h = rw (← text-shut-there m line f n e, le-ltb n (line .size) h)
 
-  remarks-says : below (itemsAnswer (wholeAwareness (take n m))) (ltb n (line .size)) (take (length m - line .next) (drop (line .next) m)) ≡ remarksAnswer (readRemarks (more (lines m)))
-  remarks-says = rw (text-there m line f n e, text-shut-there m line f n e, part-all, f) (first-says m)
+  remarks-says : below (itemsAnswer (wholeAwareness (take n m))) (ltb n (line .size)) (drop (line .next) m) ≡ remarksAnswer (readRemarks (more (lines m)))
+  remarks-says = rw (text-there m line f n e, text-shut-there m line f n e, f) (first-says m)
 
-  -- either the tail is refused, or it stands behind the items
-  module _ {r : ItemsRead} (x : r ≡ itemsAnswer (wholeAwareness (take n m))) {t : Tail} (y : t ≡ itemsStep (r .fits) (r .count) (ltb n (line .size)) (take (length m - line .next) (drop (line .next) m))) where
-    both : joined r t ≡ remarksAnswer (readRemarks (more (lines m)))
-    both = rw (y, x) remarks-says
+-- what the code has found in m below the rows: its first line, the size of that line's text, the items in it and what stands behind them
+pub record Below (m : List ℕ) : Type 0 where
+  pub line : Line
+  pub size : ℕ
+  pub read : ItemsRead
+  pub tail : Tail
+  pub first : line ≡ firstLine m
+  pub sized : size ≡ length (opened (take (line .size) m))
+  pub items : read ≡ itemsAnswer (wholeAwareness (take size m))
+  pub behind : tail ≡ itemsStep (read .fits) (read .count) (ltb size (line .size)) (take (length m - line .next) (drop (line .next) m))
 
-    pub tail-refused : (t .refusal ≡ 0 → ⊥) → noRemarks (t .refusal) ≡ remarksAnswer (readRemarks (more (lines m)))
-    unfolding joined
-    tail-refused h = rw (ne-eqb (t .refusal) 0 h) at both
+-- either the tail is refused, or it stands behind the items
+module _ {m : List ℕ} (x : Below m) where
+  both : joined (x .read) (x .tail) (drop (x .line .next) m) ≡ remarksAnswer (readRemarks (more (lines m)))
+  both = rw (x .behind, x .items, part-all) (remarks-says m (x .line) (x .first) (x .size) (x .sized))
 
-    pub tail-joined : t .refusal ≡ 0 → record { refusal = 0; items = record { count = r .count; items = r .items }; language = t .language } ≡ remarksAnswer (readRemarks (more (lines m)))
-    unfolding joined
-    tail-joined h = rw h at both
+  kept : Kept (drop (x .line .next) m) (x .tail)
+  kept = rw (x .behind, part-all) (tail-kept (x .read .fits) (x .read .count) (ltb (x .size) (x .line .size)) (drop (x .line .next) m))
+
+  pub tail-inside : x .line .next + x .tail .size ≤ length m
+  tail-inside = omega (arith, kept .inside, length-drop (x .line .next) m, first-within m (x .first) .1)
+
+  pub tail-short : length (take (x .line .next + x .tail .size - x .line .next) (drop (x .line .next) m)) ≤ 400
+  tail-short = rw length-take (omega (arith, kept .short))
+
+  pub tail-refused : (x .tail .refusal ≡ 0 → ⊥) → noRemarks (x .tail .refusal) ≡ remarksAnswer (readRemarks (more (lines m)))
+  unfolding joined
+  tail-refused h = rw (ne-eqb (x .tail .refusal) 0 h) at both
+
+  pub tail-joined : x .tail .refusal ≡ 0 → {l : Language} → l ≡ makeLanguage (take (x .line .next + x .tail .size - x .line .next) (drop (x .line .next) m))
+      → record { refusal = 0; items = record { count = x .read .count; items = x .read .items }; language = l } ≡ remarksAnswer (readRemarks (more (lines m)))
+  unfolding joined
+  tail-joined h k =
+      let z : x .line .next + x .tail .size - x .line .next ≡ x .tail .size = omega arith in
+      rw (k, z) (rw h at both)

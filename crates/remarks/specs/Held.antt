@@ -6,11 +6,8 @@ use lib.Dec.{eqb}
 use lib.ListN.{length, take}
 use Rattle.text.specs.Choice.{pick}
 use Rattle.text.specs.Lines.{lineSize, lineStep, closed, opened}
-use Rattle.items.specs.declared.LanguageRead.{LanguageRead}
-use Rattle.items.specs.Language.{wholeLanguage}
-use Rattle.items.specs.Held.{languageAnswer}
+use Rattle.items.specs.Language.{validLanguage}
 use Rattle.awareness.specs.declared.ItemsRead.{ItemsRead}
-use Rattle.body.specs.declared.Language.{Language}
 use Rattle.text.specs.Out.{Out, refuse, taken}
 use Rattle.body.specs.Remarks.{Remarks, makeItems, makeLanguage}
 use Rattle.remarks.specs.declared.RemarksRead.{RemarksRead}
@@ -25,30 +22,30 @@ abbrev pub remarksAnswer : Out Remarks → RemarksRead
 remarksAnswer (refuse n) = noRemarks n
 remarksAnswer (taken x) = record { refusal = 0; items = makeItems (x .items); language = makeLanguage (x .language) }
 
--- what stands behind the items: the plain language, or none; blank where it is refused
+-- what stands behind the items: so many bytes of plain language; none where it is refused
 abbrev pub noTail : ℕ → Tail
-noTail n = record { refusal = n; language = makeLanguage [] }
+noTail n = record { refusal = n; size = 0 }
 
 -- behind the line that `)` closes: "bytes after the end"
-unfoldable pub ending : Language → ℕ → Tail
-ending l left = pick (eqb left 0) (record { refusal = 0; language = l }) (noTail 4)
+unfoldable pub ending : ℕ → ℕ → Tail
+ending size left = pick (eqb left 0) (record { refusal = 0; size = size }) (noTail 4)
 
 -- the awareness line is the last: 8 where it is "empty before `)`"
 unfoldable pub lastItems : ℕ → ℕ → Tail
-lastItems count left = pick (eqb count 0) (noTail 8) (ending (makeLanguage []) left)
+lastItems count left = pick (eqb count 0) (noTail 8) (ending 0 left)
 
 -- plain language that `)` closes: 9 where it does not fit
-unfoldable pub lastLanguage : LanguageRead → ℕ → Tail
-lastLanguage r left = pick (r .fits) (ending (record { length = r .length; bytes = r .bytes }) left) (noTail 9)
+unfoldable pub lastLanguage : List ℕ → ℕ → Tail
+lastLanguage l left = pick (validLanguage l) (ending (length l) left) (noTail 9)
 
 -- the line of plain language: 4 where it is missing, and "at once" where it lacks `)`
 unfoldable pub nextLanguage : List ℕ → Tail
-nextLanguage m = pick (closed (take (lineSize m) m)) (lastLanguage (languageAnswer (wholeLanguage (opened (take (lineSize m) m)))) (length m - lineStep m)) (noTail 4)
+nextLanguage m = pick (closed (take (lineSize m) m)) (lastLanguage (opened (take (lineSize m) m)) (length m - lineStep m)) (noTail 4)
 
 -- the awareness line: whether it fits, how many items it has, whether `)` closes it, and what is left behind it
 unfoldable pub itemsStep : Bool → ℕ → Bool → List ℕ → Tail
 itemsStep fits count c rest = pick fits (pick c (lastItems count (length rest)) (nextLanguage rest)) (noTail 8)
 
--- the items and what stands behind them
-unfoldable pub joined : ItemsRead → Tail → RemarksRead
-joined r t = pick (eqb (t .refusal) 0) (record { refusal = 0; items = record { count = r .count; items = r .items }; language = t .language }) (noRemarks (t .refusal))
+-- the items, and the plain language at the front of what is left behind them
+unfoldable pub joined : ItemsRead → Tail → List ℕ → RemarksRead
+joined r t rest = pick (eqb (t .refusal) 0) (record { refusal = 0; items = record { count = r .count; items = r .items }; language = makeLanguage (take (t .size) rest) }) (noRemarks (t .refusal))

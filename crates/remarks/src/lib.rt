@@ -1,8 +1,7 @@
 // What stands below the rows of a notice: the awareness line and the plain language, read, judged and put.
 
 ghost use mathlib.Core.Path.{_≡_};
-ghost use mathlib.Core.List.{[]};
-ghost use Prim.Native.Nat.{_<_};
+ghost use Prim.Native.Nat.{_≤_};
 ghost use lib.ListN.{length};
 ghost use Rattle.text.specs.Choice.{pick, _and_, isEmpty};
 ghost use Rattle.text.specs.Piece.{canonical, verbatim};
@@ -10,16 +9,15 @@ ghost use Rattle.text.specs.Lines.{lines, opened, under};
 ghost use Rattle.text.specs.Put.{Put};
 ghost use Rattle.items.specs.Awareness.{awarenessPieces};
 ghost use Rattle.body.specs.Rows.{finished, more};
-ghost use Rattle.body.specs.Remarks.{itemsOf, languageOf, holdsItems, makeItems, makeLanguage, holdsLanguage, languageLines, remarkLines, readRemarks};
+ghost use Rattle.body.specs.Remarks.{itemsOf, languageOf, holdsItems, makeLanguage, holdsLanguage, languageLines, remarkLines, readRemarks};
 ghost use Rattle.remarks.specs.Held.{noRemarks, remarksAnswer, noTail, ending, lastItems, lastLanguage, nextLanguage, itemsStep};
 use awareness::read_awareness;
 use body::Items;
 use body::Language;
-use items::LanguageRead;
 use items::blank_item;
 use items::put_language;
-use items::read_language;
 use items::valid_items;
+use items::valid_language;
 use items::valid_language_bytes;
 use text::first_line;
 use text::is_closed;
@@ -118,60 +116,42 @@ fn text_size(line: &[u8]) -> usize
     n
 }
 
-fn blank_items() -> Items
-    ensures { λ i. ⌜ i ≡ makeItems [] ⌝ }
-{
-    let i = blank_item();
-    Items {
-        count: 0,
-        items: [i; 32],
-    }
-}
-
-fn blank_language() -> Language
-    ensures { λ l. ⌜ l ≡ makeLanguage [] ⌝ }
-{
-    Language {
-        length: 0,
-        bytes: [0; 400],
-    }
-}
-
 // Nothing below the rows, or a refusal.
 pub fn no_remarks(refusal: u8) -> RemarksRead
     ensures { λ r. ⌜ r ≡ noRemarks refusal ⌝ }
 {
-    let items = blank_items();
-    let language = blank_language();
+    let i = blank_item();
     RemarksRead {
         refusal,
-        items,
-        language,
+        items: Items {
+            count: 0,
+            items: [i; 32],
+        },
+        language: Language {
+            length: 0,
+            bytes: [0; 400],
+        },
     }
 }
 
-// What stands behind the items: the plain language, or none, or a refusal. It is read by itself, so that the items are not handed on.
+// What stands behind the items: how many bytes of plain language, or a refusal. The bytes themselves are kept once, at the end.
 pub struct Tail {
     pub refusal: u8,
-    pub language: Language,
+    pub size: usize,
 }
 
 fn no_tail(refusal: u8) -> Tail
     ensures { λ t. ⌜ t ≡ noTail refusal ⌝ }
 {
-    let language = blank_language();
-    Tail { refusal, language }
+    Tail { refusal, size: 0 }
 }
 
 // Behind the line that `)` closes: 4 where bytes are left.
-fn ending(language: Language, left: usize) -> Tail
-    ensures { λ t. ⌜ t ≡ ending language left ⌝ }
+fn ending(size: usize, left: usize) -> Tail
+    ensures { λ t. ⌜ t ≡ ending size left ⌝ }
 {
     if left == 0 {
-        return Tail {
-            refusal: 0,
-            language,
-        };
+        return Tail { refusal: 0, size };
     }
     no_tail(4)
 }
@@ -183,21 +163,15 @@ fn last_items(count: u8, left: usize) -> Tail
     if count == 0 {
         return no_tail(8);
     }
-    let language = blank_language();
-    ending(language, left)
+    ending(0, left)
 }
 
 // Plain language that `)` closes: 9 where it does not fit.
-fn last_language(read: LanguageRead, left: usize) -> Tail
-    ensures { λ t. ⌜ t ≡ lastLanguage read left ⌝ }
+fn last_language(text: &[u8], left: usize) -> Tail
+    ensures { λ t. ⌜ t ≡ lastLanguage (now (text .entry)) left ⌝ }
 {
-    if read.fits {
-        let bytes = read.bytes;
-        let language = Language {
-            length: read.length,
-            bytes,
-        };
-        return ending(language, left);
+    if valid_language(text) {
+        return ending(text.len(), left);
     }
     no_tail(9)
 }
@@ -210,8 +184,7 @@ fn next_language(m: &[u8]) -> Tail
     let size = line.size;
     let text = text_size(&m[..size]);
     if text < size {
-        let read = read_language(&m[..text]);
-        return last_language(read, m.len() - line.next);
+        return last_language(&m[..text], m.len() - line.next);
     }
     no_tail(4)
 }
@@ -229,7 +202,21 @@ fn items_step(fits: bool, count: u8, closed: bool, rest: &[u8]) -> Tail
     no_tail(8)
 }
 
-// What stands behind the rows: nothing where `)` closed them, else `m` below the empty line that ended them, line by line.
+// Plain language in its array, with zeros behind it.
+fn kept_language(text: &[u8]) -> Language
+    requires { ⌜ length (now text) ≤ 400 ⌝ }
+    ensures { λ l. ⌜ l ≡ makeLanguage (now (text .entry)) ⌝ }
+{
+    let mut bytes = [0u8; 400];
+    put(&mut bytes, 0, text);
+    Language {
+        length: text.len() as u16,
+        bytes,
+    }
+}
+
+// What stands behind the rows: nothing where `)` closed them, else `m` below the empty line that ended them, line by line. Where no line follows, the
+// awareness line and the one behind it are empty, and that gives 4.
 pub fn read_remarks(closed: bool, m: &[u8]) -> RemarksRead
     ensures { λ r. ⌜ r ≡ remarksAnswer (readRemarks (pick closed finished (more (lines (now (m .entry)))))) ⌝ }
 {
@@ -245,8 +232,9 @@ pub fn read_remarks(closed: bool, m: &[u8]) -> RemarksRead
     if tail.refusal != 0 {
         return no_remarks(tail.refusal);
     }
+    let end = next + tail.size;
+    let language = kept_language(&m[next..end]);
     let items = read.items;
-    let language = tail.language;
     RemarksRead {
         refusal: 0,
         items: Items {

@@ -2,7 +2,7 @@
 ghost use mathlib.Core.Path.{_≡_};
 ghost use mathlib.Core.Bool.{false};
 ghost use mathlib.Core.List.{[], _∷_};
-ghost use Prim.Native.Nat.{_<_};
+ghost use Prim.Native.Nat.{_<_, _≤_};
 ghost use lib.Dec.{leb};
 ghost use lib.ListN.{length};
 ghost use Rattle.text.specs.Choice.{pick, all};
@@ -212,8 +212,9 @@ fn disagrees(t: Third) -> u8
     if agrees(t) { 0 } else { 1 }
 }
 
-fn disagreements(r: Row) -> u8
-    ensures { λ n. ⌜ n ≡ disagreements (r .thirds) ⌝ }
+// How many of a row's thirds have a code that Table 1 does not allow, whether or not the row is valid.
+pub fn disagreements(r: Row) -> u8
+    ensures { λ n. ⌜ (n ≡ disagreements (r .thirds)) × (n ≤ 3) ⌝ }
 {
     let a = r.thirds[0];
     let b = r.thirds[1];
@@ -224,7 +225,7 @@ fn disagreements(r: Row) -> u8
     x + (y + z)
 }
 
-// How many of the row's thirds have a code that Table 1 does not allow.
+// The same of a valid row; any other is refused.
 pub fn disagreeing(row: Row) -> Agreement
     ensures { λ r. ⌜ r ≡ agreement row ⌝ }
 {

@@ -3,7 +3,7 @@ use Prim.Native.Nat.{ℕ, zero, suc}
 use mathlib.Core.Path.{_≡_, refl}
 use mathlib.Core.List.{List, [], _∷_, map}
 use mathlib.Core.Bool.{Bool, true, false}
-use Rattle.text.specs.Held.{none, noSpan, isSpace, isAboveReturn, startsWith, lowFirst, isByte, Eight}
+use Rattle.text.specs.Held.{none, noSpan, isSpace, isUnfed, startsWith, lowFirst, isByte, Eight}
 use Rattle.text.specs.Choice.{pick, _and_, isEmpty}
 use Rattle.text.specs.Piece.{byte, gap, loose, end, last, nrGroups, bytes, spell, words, verbatim, canonical, nrText}
 use Rattle.text.specs.Read.{misfit, got, skip, readText, readGap, readLoose, readMany, whole}
@@ -122,16 +122,16 @@ held = record { padded = refl; slotted = (refl, refl); flattened = refl; empty =
 -- blocks of bytes that are looked at together
 pub record Blocks : Type 0 where
   pub spaces : map isSpace (31 ∷ 32 ∷ 33 ∷ []) ≡ false ∷ true ∷ false ∷ []
-  pub above : map isAboveReturn (10 ∷ 12 ∷ 13 ∷ 14 ∷ 255 ∷ []) ≡ false ∷ false ∷ false ∷ true ∷ true ∷ []
+  pub unfed : map isUnfed (9 ∷ 10 ∷ 11 ∷ 13 ∷ []) ≡ true ∷ false ∷ true ∷ true ∷ []
   pub starting : map (λ n. startsWith n isSpace (bytes "  A ")) (0 ∷ 1 ∷ 2 ∷ 3 ∷ 4 ∷ []) ≡ true ∷ true ∷ true ∷ false ∷ false ∷ []
-  pub whole : map (λ n. startsWith n isAboveReturn (bytes "AB")) (2 ∷ 3 ∷ []) ≡ true ∷ false ∷ []
+  pub whole : map (λ n. startsWith n isUnfed (bytes "AB")) (2 ∷ 3 ∷ []) ≡ true ∷ false ∷ []
   pub bytes-end : map isByte (0 ∷ 255 ∷ 256 ∷ []) ≡ true ∷ true ∷ false ∷ []
   pub eight : Eight (bytes " ABCDEFGHI") 1 5208208757389214273
   pub numbers : map lowFirst ([] ∷ (255 ∷ []) ∷ (1 ∷ 2 ∷ []) ∷ bytes "        " ∷ []) ≡ 0 ∷ 255 ∷ 513 ∷ 2314885530818453536 ∷ []
 
 pub blocks : Blocks
 unfolding _and_ startsWith lowFirst
-blocks = record { spaces = refl; above = refl; starting = refl; whole = refl; bytes-end = refl; eight = record { says = refl; bytes = refl }; numbers = refl }
+blocks = record { spaces = refl; unfed = refl; starting = refl; whole = refl; bytes-end = refl; eight = record { says = refl; bytes = refl }; numbers = refl }
 
 -- what is answered where nothing is found is all zero
 pub record Nothing : Type 0 where

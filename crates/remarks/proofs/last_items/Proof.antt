@@ -11,17 +11,12 @@ returns : tie.Need-returns
 unfolding lastItems
 returns c = simp (← (c .no-tail .ensures)) (search tests)
 
-blank-language-requires : tie.Need-blank-language-requires
-blank-language-requires c κs = search needs
-
 ending-requires : tie.Need-ending-requires
 ending-requires c κs = search needs
 
 returns-2 : tie.Need-returns-2
 unfolding lastItems
-returns-2 c = simp (← (c .before .blank-language .ensures), ← (c .ending .ensures)) (search tests)
+returns-2 c = simp (← (c .ending .ensures)) (search tests)
 
 pub last-items-spec : {M : Type 1} → statement M
-last-items-spec =
-    tie.close
-    (tie.spec no-tail-requires returns blank-language-requires ending-requires returns-2)
+last-items-spec = tie.close (tie.spec no-tail-requires returns ending-requires returns-2)

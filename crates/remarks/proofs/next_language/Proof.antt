@@ -16,25 +16,21 @@ slice-aggregate-text-size c = let w = first-within (c .before .before .before .a
 text-size-requires : tie.Need-text-size-requires
 text-size-requires c κs = search needs
 
-slice-aggregate-read-language : tie.Need-slice-aggregate-read-language
-slice-aggregate-read-language c = let w = first-within (c .before .before .before .before .before .before .args .m .now) (c .before .before .before .before .first-line .ensures) in rw length-take (omega arith)
-
-read-language-requires : tie.Need-read-language-requires
-read-language-requires c κs = search needs
+slice-aggregate-last-language : tie.Need-slice-aggregate-last-language
+slice-aggregate-last-language c = let w = first-within (c .before .before .before .before .before .before .args .m .now) (c .before .before .before .before .first-line .ensures) in rw length-take (omega arith)
 
 sub-last-language : tie.Need-sub-last-language
-sub-last-language c = let p = c .before .before .before .before .before .before in omega (arith, first-within (p .before .before .args .m .now) (p .first-line .ensures) .1)
+sub-last-language c = let p = c .before .before .before .before .before in omega (arith, first-within (p .before .before .args .m .now) (p .first-line .ensures) .1)
 
 last-language-requires : tie.Need-last-language-requires
 last-language-requires c κs = search needs
 
 returns : tie.Need-returns
 returns c =
-    let s = c .before .before .before .before .before in
+    let s = c .before .before .before .before in
     let p = s .before .before in
     let a = p .before .before .args in
-    let e = language-closed (a .m .now) (p .first-line .result) (p .first-line .ensures) (s .text-size .result) (s .text-size .ensures) (c .before .before .before .before .if1 .taken) in
-    c .last-language .ensures ∙ rw (c .before .before .read-language .ensures) (sym e)
+    c .last-language .ensures ∙ sym (language-closed (a .m .now) (p .first-line .result) (p .first-line .ensures) (s .text-size .result) (s .text-size .ensures) (c .before .before .before .if1 .taken))
 
 no-tail-requires : tie.Need-no-tail-requires
 no-tail-requires c κs = search needs
@@ -53,8 +49,7 @@ next-language-spec =
     first-line-requires
     slice-aggregate-text-size
     text-size-requires
-    slice-aggregate-read-language
-    read-language-requires
+    slice-aggregate-last-language
     sub-last-language
     last-language-requires
     returns

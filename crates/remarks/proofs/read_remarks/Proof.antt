@@ -2,7 +2,7 @@ use mathlib.Core.Path.{_∙_}
 use native.Mathlib.Omega.{arith}
 use lib.ListN.{length-take}
 use Rattle.text.specs.Laws.Lines.{first-within}
-use Rattle.remarks.proofs.Steps.{text-within, tail-refused, tail-joined}
+use Rattle.remarks.proofs.Steps.{Below, text-within, tail-inside, tail-short, tail-refused, tail-joined}
 use borrow.Author.Needs.{needs}
 use Rattle.remarks.proofs.read_remarks.Statement.{statement}
 use Rattle.remarks.proofs.read_remarks.Tie as tie
@@ -49,26 +49,49 @@ part-items-step-end c = search needs
 items-step-requires : tie.Need-items-step-requires
 items-step-requires c κs = search needs
 
+-- what was found up to the tail
+abbrev found : (c : tie.After-items-step) → Below (c .before .before .before .before .before .before .before .before .before .args .m .now)
+found c =
+    let s = c .before .before .before .before in
+    let p = s .before .before in
+    record {
+      line = p .first-line .result;
+      size = s .text-size .result;
+      read = c .before .before .read-awareness .result;
+      tail = c .items-step .result;
+      first = p .first-line .ensures;
+      sized = s .text-size .ensures;
+      items = c .before .before .read-awareness .ensures;
+      behind = c .items-step .ensures;
+    }
+
 no-remarks-requires-2 : tie.Need-no-remarks-requires-2
 no-remarks-requires-2 c κs = search needs
 
 returns-2 : tie.Need-returns-2
 returns-2 c =
     let q = c .before .before .before in
-    let s = q .before .before .before .before in
-    let p = s .before .before in
-    let l = p .before in
-    let m = l .before .before .args .m .now in
-    rw (l .if1 .left) (c .no-remarks2 .ensures ∙ tail-refused m (p .first-line .result) (p .first-line .ensures) (s .text-size .result) (s .text-size .ensures) (q .before .before .read-awareness .ensures) (q .items-step .ensures) (c .before .if2 .taken))
+    rw (q .before .before .before .before .before .before .before .if1 .left) (c .no-remarks2 .ensures ∙ tail-refused (found q) (c .before .if2 .taken))
+
+add-end : tie.Need-add-end
+add-end c = omega (arith, tail-inside (found (c .before .before .before)))
+
+sub-kept-language : tie.Need-sub-kept-language
+sub-kept-language c = search needs
+
+part-kept-language-start : tie.Need-part-kept-language-start
+part-kept-language-start c = search needs
+
+part-kept-language-end : tie.Need-part-kept-language-end
+part-kept-language-end c = omega (arith, tail-inside (found (c .before .before .before)))
+
+kept-language-requires : tie.Need-kept-language-requires
+kept-language-requires c κs = tail-short (found (c .before .before .before .before))
 
 returns-3 : tie.Need-returns-3
 returns-3 c =
-    let q = c .before .before .before .before in
-    let s = q .before .before .before .before in
-    let p = s .before .before in
-    let l = p .before in
-    let m = l .before .before .args .m .now in
-    rw (l .if1 .left) (tail-joined m (p .first-line .result) (p .first-line .ensures) (s .text-size .result) (s .text-size .ensures) (q .before .before .read-awareness .ensures) (q .items-step .ensures) (c .before .before .if2 .left))
+    let q = c .before .before .before .before .before .before in
+    rw (q .before .before .before .before .before .before .before .if1 .left) (tail-joined (found q) (c .before .before .before .before .if2 .left) (c .before .kept-language .ensures))
 
 pub read-remarks-spec : {M : Type 1} → statement M
 read-remarks-spec =
@@ -87,4 +110,9 @@ read-remarks-spec =
     items-step-requires
     no-remarks-requires-2
     returns-2
+    add-end
+    sub-kept-language
+    part-kept-language-start
+    part-kept-language-end
+    kept-language-requires
     returns-3)

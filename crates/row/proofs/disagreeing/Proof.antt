@@ -11,7 +11,7 @@ disagreements-requires c κs = search needs
 
 returns : tie.Need-returns
 unfolding agreement
-returns c = rw (← (c .before .before .valid-row .ensures), c .before .if1 .taken, c .disagreements .ensures)
+returns c = rw (← (c .before .before .valid-row .ensures), c .before .if1 .taken, c .disagreements .ensures .0)
 
 returns-2 : tie.Need-returns-2
 unfolding agreement

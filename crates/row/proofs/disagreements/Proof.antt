@@ -37,7 +37,10 @@ returns c =
     let c₁ = c .before in
     let c₂ = c₁ .before in
     let c₃ = c₂ .before .before .before .before in
-    let l : length (c₃ .args .t1 .thirds) ≡ 3 = simp length-map at (c₃ .good .0 .1 .1 .1 .1 .1 .0 .1 .0 .1) in rw (thirds-are (c₃ .args .t1 .thirds) l) (omega (arith, c .disagrees3 .ensures, c₁ .disagrees2 .ensures, c₂ .disagrees .ensures))
+    let l : length (c₃ .args .t1 .thirds) ≡ 3 = simp length-map at (c₃ .good .0 .1 .1 .1 .1 .1 .0 .1 .0 .1) in (
+      rw (thirds-are (c₃ .args .t1 .thirds) l) (omega (arith, c .disagrees3 .ensures, c₁ .disagrees2 .ensures, c₂ .disagrees .ensures)),
+      omega (arith, at-most-one _ _ (c .disagrees3 .ensures), at-most-one _ _ (c₁ .disagrees2 .ensures), at-most-one _ _ (c₂ .disagrees .ensures)),
+    )
 
 pub disagreements-spec : {M : Type 1} → statement M
 disagreements-spec =

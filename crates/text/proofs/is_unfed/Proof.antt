@@ -2,31 +2,32 @@
 use native.Mathlib.Omega.{arith}
 use Prim.Native.Nat.{_+_, _-_, _≤_}
 use mathlib.Core.Path.{_≡_, refl, sym, _∙_, ap}
+use mathlib.Core.Bool.{not}
 use mathlib.Core.Logic.{⊎-elim}
 use lib.ListN.{take, drop, getD, length-drop}
-use borrow.Author.Tests.{lt-ltb, le-ltb}
+use borrow.Author.Tests.{eq-eqb, ne-eqb}
 use Rattle.text.specs.Choice.{_and_, all}
-use Rattle.text.specs.Held.{isAboveReturn}
+use Rattle.text.specs.Held.{isUnfed}
 use Rattle.text.specs.Laws.Base.{and-none, and-true}
 use Rattle.text.proofs.Steps.{block-more, block-out, block-in}
 use borrow.Author.Needs.{needs}
-use Rattle.text.proofs.is_quiet.Statement.{statement}
-use Rattle.text.proofs.is_quiet.Tie as tie
+use Rattle.text.proofs.is_unfed.Statement.{statement}
+use Rattle.text.proofs.is_unfed.Tie as tie
 
 abbrev Inv-loop : tie.InvT-loop
-Inv-loop m i k₀ quiet₀ k quiet = (k ≤ 16) × (quiet ≡ all isAboveReturn (take k (drop i m)))
+Inv-loop m i k₀ unfed₀ k unfed = (k ≤ 16) × (unfed ≡ all isUnfed (take k (drop i m)))
 
 abbrev μ-loop : tie.MeasureT-loop
-μ-loop m i k₀ quiet₀ k quiet = 16 - k
+μ-loop m i k₀ unfed₀ k unfed = 16 - k
 
 returns : tie.Need-returns Inv-loop μ-loop
-returns c = let a = c .before .args in sym (block-out isAboveReturn 16 (drop (a .i) (a .m .now)) (omega (arith, length-drop (a .i) (a .m .now))))
+returns c = let a = c .before .args in sym (block-out isUnfed 16 (drop (a .i) (a .m .now)) (omega (arith, length-drop (a .i) (a .m .now))))
 
 sub-if2 : tie.Need-sub-if2 Inv-loop μ-loop
 sub-if2 c = search needs
 
 returns-2 : tie.Need-returns-2 Inv-loop μ-loop
-returns-2 c = let a = c .before .before .args in sym (block-out isAboveReturn 16 (drop (a .i) (a .m .now)) (omega (arith, length-drop (a .i) (a .m .now))))
+returns-2 c = let a = c .before .before .args in sym (block-out isUnfed 16 (drop (a .i) (a .m .now)) (omega (arith, length-drop (a .i) (a .m .now))))
 
 loop-holds : tie.Need-loop-holds Inv-loop μ-loop
 loop-holds c = (search needs, refl)
@@ -48,19 +49,19 @@ loop-again c =
     let l = c .before .before .before .loop in
     let a = c .before .before .before .before .before .before .args in
     let b = getD (a .m .now) (a .i + l .k) 0 in
-    let so-far = all isAboveReturn (take (l .k) (drop (a .i) (a .m .now))) in
-    let e = block-more isAboveReturn (a .m .now) (a .i) (l .k) (omega arith) in
-    (search needs, ⊎-elim (λ w. w .1 ∙ sym (e ∙ and-none so-far (le-ltb 13 b (w .0 .taken)))) (λ w. w .1 ∙ l .inv .1 ∙ sym (e ∙ ap (λ t. so-far and t) (lt-ltb 13 b (w .0 .left)) ∙ and-true so-far)) (c .if3 .came))
+    let so-far = all isUnfed (take (l .k) (drop (a .i) (a .m .now))) in
+    let e = block-more isUnfed (a .m .now) (a .i) (l .k) (omega arith) in
+    (search needs, ⊎-elim (λ w. w .1 ∙ sym (e ∙ and-none so-far (ap not (eq-eqb b 10 (w .0 .taken))))) (λ w. w .1 ∙ l .inv .1 ∙ sym (e ∙ ap (λ t. so-far and t) (ap not (ne-eqb b 10 (w .0 .left))) ∙ and-true so-far)) (c .if3 .came))
 
 returns-3 : tie.Need-returns-3 Inv-loop μ-loop
 returns-3 c =
     let l = c .before .loop in
     let a = c .before .before .before .before .args in
     let z : l .k ≡ 16 = omega arith in
-    l .inv .1 ∙ ap (λ k. all isAboveReturn (take k (drop (a .i) (a .m .now)))) z ∙ sym (block-in isAboveReturn 16 (drop (a .i) (a .m .now)) (omega (arith, length-drop (a .i) (a .m .now))))
+    l .inv .1 ∙ ap (λ k. all isUnfed (take k (drop (a .i) (a .m .now)))) z ∙ sym (block-in isUnfed 16 (drop (a .i) (a .m .now)) (omega (arith, length-drop (a .i) (a .m .now))))
 
-pub is-quiet-spec : {M : Type 1} → statement M
-is-quiet-spec =
+pub is-unfed-spec : {M : Type 1} → statement M
+is-unfed-spec =
     tie.close
     (tie.spec
     Inv-loop
