@@ -9,7 +9,6 @@ ghost use Rattle.text.specs.Choice.{all};
 ghost use Rattle.text.specs.Held.{Spanned, Held};
 ghost use Rattle.text.specs.Names.{isName, readRun, readName};
 ghost use Rattle.text.specs.Numbers.{readNumber, number};
-ghost use Rattle.text.specs.Piece.{bytes};
 ghost use Rattle.text.specs.Read.{readAs, readIf, readGap, misfit};
 ghost use Rattle.items.specs.Awareness.{wholeAwareness};
 ghost use Rattle.items.specs.Item.{isTaxiway, validItem};
@@ -17,7 +16,11 @@ ghost use Rattle.items.specs.ItemText.{edgeName};
 ghost use Rattle.items.specs.ReadItem.{openings, openingName, sayings, saying, taxiSayings, taxiSaying, edges, readLength, readBank, readDetail, readRunwayForm, runwayItem, readTaxiway, readSomeTaxiways, readTaxiForm, isApron, apronItem, readApronForm, readForm, readBody};
 ghost use Rattle.awareness.specs.Held.{Reads, HeldDetail, HeldItem, noItem, itemsAnswer};
 ghost use Rattle.awareness.specs.Named.{inSlots, bareFound};
+use items::APRON_SIZE;
 use items::Item;
+use items::MOST_ITEMS;
+use items::MOST_TAXIWAYS;
+use items::TAXIWAY_SIZE;
 use items::blank_item;
 use items::may_follow;
 use items::numbers_fit;
@@ -85,14 +88,6 @@ const OPENS_ALL_TAXIWAYS: u32 = 3;
 const OPENS_APRON: u32 = 4;
 
 const OPENS_ALL_APRONS: u32 = 5;
-
-const TAXIWAY_SIZE: usize = 3;
-
-const MOST_ITEMS: u8 = 32;
-
-const MOST_TAXIWAYS: u8 = 8;
-
-const APRON_SIZE: usize = 16;
 
 // ---- Reading an item
 

@@ -57,7 +57,7 @@ names r w = eqb (r .number) (w .number) and eqb (r .side) (w .side)
 unfoldable pub fitsPlace : Runway → Row → Bool
 fitsPlace w r = pick (isBlankRow r) true (validRow r and names r w)
 
--- the runways' places, and behind them "every unused place is zero"
+-- the runways' places, and behind them "every unused or unreported place is zero"
 unfoldable pub fitPlaces : List Runway → List Row → Bool
 fitPlaces [] rs = all isBlankRow rs
 fitPlaces (w ∷ ws) [] = true

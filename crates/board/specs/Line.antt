@@ -1,14 +1,14 @@
 -- The lines of the desk: "a line with the aerodrome and the runways, parted by one space and ended as in freedom (a), then one runway row a line".
 use Prim.Native.Nat.{ℕ}
 use mathlib.Core.List.{List, [], _∷_}
-use mathlib.Core.Bool.{Bool}
-use lib.Dec.{eqb, leb}
+use lib.Dec.{leb}
 use lib.ListN.{length}
 use Rattle.text.specs.Choice.{pick}
 use Rattle.text.specs.Piece.{Piece, byte, end, canonical, verbatim, layAll, _then_}
 use Rattle.text.specs.Read.{Got, misfit, got, whole, readSeq, readAs, readMany}
 use Rattle.text.specs.Names.{readCount}
 use Rattle.text.specs.Arrays.{pad}
+use Rattle.text.specs.Held.{isSpace}
 use Rattle.runway.specs.Runway.{readRunway, runwayPieces}
 use Rattle.row.specs.declared.Row.{Row}
 use Rattle.row.specs.Row.{validRow, rowPieces}
@@ -21,10 +21,6 @@ use Rattle.board.specs.declared.Answer.{Answer}
 use Rattle.board.specs.declared.RunwayList.{RunwayList}
 use Rattle.board.specs.Board.{places, blankRunway, answer, opening, refusedOpening}
 use Rattle.board.specs.Report.{report}
-
--- the byte that parts the aerodrome and the runways
-abbrev pub isSpace : ℕ → Bool
-isSpace c = eqb c 32
 
 -- "parted by one space": exactly one, so it is a byte and no gap
 abbrev pub spacedPieces : Runway → List Piece
@@ -73,6 +69,6 @@ reportRead b (got r k) = report b r
 unfoldable pub reportLine : Board → List ℕ → Answer
 reportLine b line = pick (leb (length line) longest) (reportRead b (wholeRow line)) (answer refusedRow b)
 
--- "at the end the rows shown, one a line": zeros, and all that is no valid row, have none
+-- "at the end the rows shown, in board order, one a line": zeros, and all that is no valid row, have none
 unfoldable pub shownText : Row → List ℕ
 shownText r = pick (validRow r) (canonical (rowPieces r then (end ∷ []))) []

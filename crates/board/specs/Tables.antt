@@ -142,7 +142,7 @@ pub record Lines : Type 0 where
   rows : rowLines ("" ∷ ")" ∷ "01120610 07L 6/6/6 DRY/DRY/DRY)" ∷ "02300000 07L 6/6/6 DRY/DRY/DRY" ∷ "01120610 07 6/6/6 DRY/DRY/DRY" ∷ []) ≡ 5 ∷ 5 ∷ 5 ∷ 5 ∷ 18 ∷ []
   -- "or is over 4,096 bytes": as long as that, a line is read
   long : reportLine board (bytes "01120610" ++ (replicate 4067 32 ++ bytes "07L 6/6/6 DRY/DRY/DRY")) .refusal ∷ reportLine board (bytes "01120610" ++ (replicate 4068 32 ++ bytes "07L 6/6/6 DRY/DRY/DRY")) .refusal ∷ [] ≡ 0 ∷ 5 ∷ []
-  -- "the rows shown, one a line"
+  -- "the rows shown, in board order, one a line"
   line : shownText left ≡ bytes "01120610 07L 6/6/6 DRY/DRY/DRY" ++ (10 ∷ [])
   none : shownText blankRow ≡ []
   -- a list that does not fit is none, and so is a place in none

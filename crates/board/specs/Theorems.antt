@@ -1,4 +1,4 @@
--- Demand 3: "every order in which the inspection cars call in".
+-- Demand 3: in whatever order the inspection cars call in, the board shows for each runway the report observed last.
 use Prim.Native.Nat.{ℕ, _<_, _≤_}
 use mathlib.Core.Path.{_≡_, refl, sym, subst, _∙_, ap}
 use mathlib.Core.List.{List, [], List·Permᴰ, Permᴰ·symm}

@@ -21,15 +21,20 @@ use heading::Addresses;
 use heading::Filing;
 use heading::Title;
 use heading::read_aerodrome;
+use notice::LONGEST;
 use notice::Record;
 use notice::Written;
 use notice::write;
+use row::HIGHEST_RUNWAY;
+use row::INVALID_ROW;
+use row::REFUSED_ROW;
 use row::Row;
 use row::blank_row;
 use row::is_blank_row;
 use row::put_any_row;
 use row::read_row;
 use row::valid_row;
+use runway::NO_RUNWAY;
 use runway::RunwayFound;
 use runway::is_later;
 use runway::read_runway;
@@ -64,24 +69,18 @@ pub struct Details {
     pub serial: u16,
 }
 
-const PLACES: usize = 8;
+pub const PLACES: usize = 8;
 
 const MOST_RUNWAYS: u8 = 8;
 
-const HIGHEST_RUNWAY: u8 = 18;
-
 // Refusal numbers.
-const REFUSED_ROW: u8 = 5;
-
 const WRONG_BOARD: u8 = 17;
 
 const NOT_ON_BOARD: u8 = 18;
 
-const INVALID_ROW: u8 = 19;
-
 const NOT_LATER: u8 = 20;
 
-const NO_RUNWAY: Runway = Runway { number: 0, side: 0 };
+const BLANK_RUNWAY: Runway = Runway { number: 0, side: 0 };
 
 // ---- The rules
 
@@ -124,7 +123,7 @@ fn rises(v: Runway, w: Runway) -> bool
 fn all_rise(count: usize, runways: [Runway; 8]) -> bool
     ensures { λ r. ⌜ r ≡ rising blankRunway (take count runways) ⌝ }
 {
-    let mut last = NO_RUNWAY;
+    let mut last = BLANK_RUNWAY;
     let mut i: usize = 0;
     while i < PLACES {
         if count <= i {
@@ -245,7 +244,7 @@ fn blank_board() -> Board
     Board {
         aerodrome: [0; 4],
         count: 0,
-        runways: [NO_RUNWAY; 8],
+        runways: [BLANK_RUNWAY; 8],
         rows: [r; 8],
     }
 }
@@ -384,12 +383,7 @@ fn spaced_runway(s: &[u8], i: usize) -> RunwayFound
             return read_runway(s, i + 1);
         }
     }
-    RunwayFound {
-        fits: false,
-        number: 0,
-        side: 0,
-        next: 0,
-    }
+    NO_RUNWAY
 }
 
 fn no_list() -> RunwayList
@@ -397,7 +391,7 @@ fn no_list() -> RunwayList
 {
     RunwayList {
         count: 0,
-        runways: [NO_RUNWAY; 8],
+        runways: [BLANK_RUNWAY; 8],
     }
 }
 
@@ -405,7 +399,7 @@ fn no_list() -> RunwayList
 fn runway_list(s: &[u8]) -> RunwayList
     ensures { λ r. ⌜ r ≡ listAnswer (whole (readRunways (now (s .entry)))) ⌝ }
 {
-    let mut runways = [NO_RUNWAY; 8];
+    let mut runways = [BLANK_RUNWAY; 8];
     let mut count: u8 = 0;
     let mut at: usize = 0;
     while at < s.len() {
@@ -445,8 +439,6 @@ pub fn open_line(line: &[u8]) -> Answer
     let runways = l.runways;
     open(aerodrome, l.count, runways)
 }
-
-const LONGEST: usize = 4096;
 
 // The report that a line is: 5 where it is no row or is over 4,096 bytes.
 pub fn report_line(b: Board, line: &[u8]) -> Answer

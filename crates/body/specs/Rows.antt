@@ -81,7 +81,7 @@ readRows n seen [] = refuse 4
 readRows n seen ([] ∷ ls) = pick (isEmpty seen) (refuse 4) (taken (block seen (more ls)))
 -- "a ninth line that is not empty where a row may stand": 6 before the row's own rules
 readRows zero seen ((x ∷ l) ∷ ls) = refuse 6
--- "any other line is read as a row", 5; "7 comes after the row's own rules"; `)` closes
+-- "any other line, `)` alone too, is read as a row", 5; "7 comes after the row's own rules"; `)` closes
 readRows (suc n) seen ((x ∷ l) ∷ ls) = fit 5 (wholeRow (opened (x ∷ l))) (λ r.
     pick (isAmong r seen) (refuse 7)
     (pick (closed (x ∷ l)) (atEnd ls (block (seen ++ (r ∷ [])) finished))

@@ -52,7 +52,7 @@ pub struct RowsRead {
     pub next: usize,
 }
 
-const MOST_ROWS: u8 = 8;
+pub const MOST_ROWS: u8 = 8;
 
 fn same_runway(a: Row, b: Row) -> bool
     ensures { λ r. ⌜ r ≡ sameRunway a b ⌝ }

@@ -1,6 +1,7 @@
 // The desk: keeps one board and updates it report by report. Its first line opens the board, each further line is a report; at the end it
 // prints the rows shown, in board order. Lines may arrive in pieces of any size; what a line means is the promise of `board`.
 use board::Board;
+use board::PLACES;
 use board::open_line;
 use board::put_shown;
 use board::report_line;
@@ -12,8 +13,6 @@ use text::first_line;
 const LONGEST: usize = 4097;
 
 const ROOM: usize = 8192;
-
-const PLACES: usize = 8;
 
 const LONGEST_LINE: usize = 256;
 

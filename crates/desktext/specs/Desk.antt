@@ -25,16 +25,16 @@ unfoldable pub shownRows : ℕ → Board → List ℕ
 shownRows zero b = []
 shownRows (suc n) b = shownRows n b ++ shownText (rowAt b n)
 
--- "for each row line 0 or the refusal number; at the end the rows shown"
+-- "for each row line 0 or the refusal number ..; at the end the rows shown"
 unfoldable pub answersText : Board → List (List ℕ) → List ℕ
 answersText b [] = shownRows places b
 answersText b (l ∷ ls) = answerLine (reportLine b l .refusal) ++ answersText (reportLine b l .board) ls
 
--- "REFUSED 17 and stops"
+-- "`REFUSED 17` and stops"
 abbrev pub refusedText : List ℕ
 refusedText = printed (bytes "REFUSED 17")
 
--- "It prints OPEN, or REFUSED 17"
+-- "It prints `OPEN`, or `REFUSED 17` and stops"
 abbrev pub openedText : Answer → List (List ℕ) → List ℕ
 openedText a ls = pick (eqb (a .refusal) 0) (printed (bytes "OPEN") ++ answersText (a .board) ls) refusedText
 

@@ -9,6 +9,7 @@ ghost use Rattle.desktext.specs.Desk.{answerLine, shownRows, answersText
 ghost use Rattle.desktext.specs.Answers.{taken};
 use board::Answer;
 use board::Board;
+use board::PLACES;
 use board::open_line;
 use board::put_shown;
 use board::report_line;
@@ -17,8 +18,6 @@ use text::place;
 use text::put;
 use text::put_number;
 use text::told_behind;
-
-const PLACES: usize = 8;
 
 // The report that a line is, and where the next line starts.
 struct Taken {

@@ -35,7 +35,7 @@ pub record AddressLines : Type 0 where
       ≡ false ∷ true ∷ false ∷ false ∷ false ∷ true ∷ false ∷ []
   pub spaces : taken readAddresses ("GG  XQAAYNYX   XQBBYOYX" ∷ "GGXQAAYNYX" ∷ " GG XQAAYNYX" ∷ "GG XQAAYNYX " ∷ "G G XQAAYNYX" ∷ "GG XQAA YNYX" ∷ "GG XQAAYNYX)" ∷ [])
       ≡ true ∷ false ∷ false ∷ false ∷ false ∷ false ∷ false ∷ []
-  -- "The same address twice is taken"
+  -- the same address twice is taken
   pub twice : taken readAddresses ("GG XQAAYNYX XQAAYNYX" ∷ []) ≡ true ∷ []
   pub says : whole (readAddresses (bytes "DD XQAAYNYX  XQBBYOYX")) ≡ got (makeAddresses 2 (bytes "XQAAYNYX" ∷ bytes "XQBBYOYX" ∷ [])) []
   pub text : canonical (addressesPieces (makeAddresses 1 (bytes "XQAAYNYX" ∷ bytes "XQBBYOYX" ∷ []))) ≡ bytes "GG XQAAYNYX XQBBYOYX"
@@ -100,7 +100,7 @@ pub record HeadingLines : Type 0 where
   pub aerodromes : taken readHeading ("SWXQ0007 XQA 01120640" ∷ "SWXQ0007 XQAAA 01120640" ∷ "SWXQ0007 XQA1 01120640" ∷ "SWZZ0007 XQAA 01120640" ∷ []) ≡ false ∷ false ∷ false ∷ true ∷ []
   pub times : taken readHeading ("SWXQ0007 XQAA 02290000" ∷ "SWXQ0007 XQAA 02300000" ∷ "SWXQ0007 XQAA 01122359" ∷ "SWXQ0007 XQAA 01122400" ∷ "SWXQ0007 XQAA 01120660" ∷ "SWXQ0007 XQAA 1120640" ∷ "SWXQ0007 XQAA" ∷ [])
       ≡ true ∷ false ∷ true ∷ false ∷ false ∷ false ∷ false ∷ []
-  -- "A fourth group in line 3 is 3"; `)` as the last byte
+  -- a fourth group in line 3 is 3, and so is `)` as the last byte
   pub ends : taken readHeading ("SWXQ0007 XQAA 01120640 XQAA" ∷ "SWXQ0007 XQAA 01120640)" ∷ "SWXQ0007 XQAA 011206400" ∷ []) ≡ false ∷ false ∷ false ∷ []
   pub says : whole (readHeading (bytes "SWXQ0007 XQAA  01120640")) ≡ got example []
   pub text : canonical (headingPieces example) ≡ bytes "SWXQ0007 XQAA 01120640"

@@ -59,7 +59,7 @@ unfoldable pub awarenessPieces : List Item → List Piece
 awarenessPieces [] = []
 awarenessPieces (i ∷ is) = itemPieces i then layAll (λ j. loose ∷ itemPieces j) is
 
--- a line without items is empty
+-- a line without items is empty; any other has one, and up to 31 more
 unfoldable pub readAwareness : List ℕ → Got (List Item)
 readAwareness [] = got [] []
 readAwareness (x ∷ m) = readIf inOrder (readAs (λ p. p .0 ∷ p .1) (readSeq readItem (readMany (readLoose readItem) 31))) (x ∷ m)

@@ -28,7 +28,7 @@ ofTaxiways i said = words "TWY" then layAll (λ w. space then verbatim w) (taxiw
 abbrev pub edgeName : ℕ → List ℕ
 edgeName = nameAt ("" ∷ "L" ∷ "R" ∷ "LR" ∷ [])
 
--- items I and M: what is said of a runway, and the detail
+-- I: what is said of a runway, and the length
 abbrev pub lengthText : Item → List Piece
 lengthText i = ofRunway i (bytes " REDUCED TO ") then number 3 (i .amount)
 

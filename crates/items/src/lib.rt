@@ -41,15 +41,15 @@ pub struct Item {
     pub name: [u8; 16],
 }
 
-const MOST_TAXIWAYS: u8 = 8;
+pub const MOST_TAXIWAYS: u8 = 8;
 
-const TAXIWAY_SIZE: usize = 3;
+pub const TAXIWAY_SIZE: usize = 3;
 
 const TAXIWAY_BYTES: usize = 24;
 
-const APRON_SIZE: usize = 16;
+pub const APRON_SIZE: usize = 16;
 
-const MOST_ITEMS: u8 = 32;
+pub const MOST_ITEMS: u8 = 32;
 
 const MOST_LANGUAGE: usize = 400;
 

@@ -30,7 +30,7 @@ use Rattle.items.specs.Language.{lastIs, validLanguage, wholeLanguage}
 use Rattle.items.specs.ReadItem.{readLength, readBank, readNeither, readDetail, readTaxiway, readTaxiways, readApron, readRunwayForm, readTaxiForm, readApronForm, readBareForm, readForm, readBody, readItem}
 use Rattle.body.specs.Rows.{isAmong, newRunways, latestOf, latestFrom, latest, readRows}
 use Rattle.notice.specs.Notice.{noticeLines, notice, noticeText}
-use Rattle.notice.specs.Reading.{agreeing, readNotice, reading}
+use Rattle.notice.specs.Reading.{mismatch, agreeing, readNotice, reading}
 use Rattle.notice.specs.Examples.{message, headed, typed, retyped}
 use Rattle.listing.specs.Listing.{disagreeingThirds, counted, acceptedLine, refusedLine, listed, listing}
 use Rattle.body.specs.Rows as Rows
@@ -48,5 +48,5 @@ pub record Tables : Type 0 where
   long : map listing (spaces 4096 ∷ spaces 4097 ∷ []) ≡ message ("REFUSED 2" ∷ []) ∷ message ("REFUSED 1" ∷ []) ∷ []
 
 pub tables : Tables
-unfolding slots flat _and_ lines closed front ended run past isMark readCount readName readDigits digits spell skip readText readMany validRunway isShortMonth daysOf realDay realClock realTime later isContaminant isDeep isCoverage validCoverage leastDepth isReported validDepth validThird measurePieces readMeasure readCoverage readDescription thirdPieces readThird highest readGroup readFull readShort readWidth readRow threeThat validRow isBare isSix isDry isShort middlePieces widthPieces rowPieces addressesPieces readAddresses realFiling filingPieces readFiling headingPieces readHeading serialPieces readSerialLine aerodromePieces readAerodrome isLetters sameRunway otherApron mayRepeat mayFollow inOrder awarenessPieces readAwareness wholeAwareness onRunway onTaxiways runwayFits amountFits edgeFits countFits isTaxiway validSlot isNew slotsFit taxiwaysFit nameFits numbersFit validItem itemText itemPieces lastIs validLanguage wholeLanguage readLength readBank readNeither readDetail readTaxiway readTaxiways readApron readRunwayForm readTaxiForm readApronForm readBareForm readForm readBody readItem isAmong newRunways latestOf latestFrom latest readRows noticeLines notice noticeText agreeing readNotice reading Rows.sameRunway table1 isShallow firstLine canHold allows agrees disagrees disagreements disagreeingThirds counted acceptedLine refusedLine listed listing
+unfolding slots flat _and_ lines closed front ended run past isMark readCount readName readDigits digits spell skip readText readMany validRunway isShortMonth daysOf realDay realClock realTime later isContaminant isDeep isCoverage validCoverage leastDepth isReported validDepth validThird measurePieces readMeasure readCoverage readDescription thirdPieces readThird highest readGroup readFull readShort readWidth readRow threeThat validRow isBare isSix isDry isShort middlePieces widthPieces rowPieces addressesPieces readAddresses realFiling filingPieces readFiling headingPieces readHeading serialPieces readSerialLine aerodromePieces readAerodrome isLetters sameRunway otherApron mayRepeat mayFollow inOrder awarenessPieces readAwareness wholeAwareness onRunway onTaxiways runwayFits amountFits edgeFits countFits isTaxiway validSlot isNew slotsFit taxiwaysFit nameFits numbersFit validItem itemText itemPieces lastIs validLanguage wholeLanguage readLength readBank readNeither readDetail readTaxiway readTaxiways readApron readRunwayForm readTaxiForm readApronForm readBareForm readForm readBody readItem isAmong newRunways latestOf latestFrom latest readRows noticeLines notice noticeText mismatch agreeing readNotice reading Rows.sameRunway table1 isShallow firstLine canHold allows agrees disagrees disagreements disagreeingThirds counted acceptedLine refusedLine listed listing
 tables = record { accepted = refl; refused = refl; long = refl }

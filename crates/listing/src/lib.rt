@@ -4,6 +4,7 @@ ghost use Rattle.text.specs.Put.{Put};
 ghost use Rattle.body.specs.Rows.{rowsOf};
 ghost use Rattle.notice.specs.Notice.{noticeText};
 ghost use Rattle.listing.specs.Listing.{disagreeingThirds, counted, acceptedLine, refusedLine, listing};
+use body::MOST_ROWS;
 use body::Rows;
 use notice::Record;
 use notice::put_notice;
@@ -13,8 +14,6 @@ use text::place;
 use text::put;
 use text::put_number;
 use text::told_behind;
-
-const MOST_ROWS: u8 = 8;
 
 // Those of all rows together.
 fn disagreeing_thirds(r: Rows) -> u8

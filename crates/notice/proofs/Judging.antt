@@ -7,14 +7,14 @@ use native.Mathlib.Omega.{arith}
 use lib.Dec.{eqb}
 use lib.ListN.{length, take, drop}
 use borrow.Author.Tests.{eq-eqb, ne-eqb, le-leb, lt-leb}
-use Rattle.text.specs.Choice.{pick, sameBytes}
+use Rattle.text.specs.Choice.{pick}
 use Rattle.text.specs.Held.{Reached}
 use Rattle.text.specs.Lines.{lines}
 use Rattle.text.specs.Laws.Held.{part-all}
 use Rattle.body.specs.declared.Rows.{Rows}
 use Rattle.body.specs.declared.RowsRead.{RowsRead}
 use Rattle.text.specs.Out.{Out, refuse, taken, next}
-use Rattle.body.specs.Rows.{rowsOf, makeRows, latest, After, finished, more}
+use Rattle.body.specs.Rows.{rowsOf, makeRows, After, finished, more}
 use Rattle.body.specs.Remarks.{Remarks, readRemarks}
 use Rattle.body.specs.Held.{RowsHeld}
 use Rattle.text.specs.Laws.Out.{Numbered}
@@ -28,7 +28,7 @@ use Rattle.notice.specs.Reading.{agreeing, accepted, refused, result, lo
 use Rattle.front.specs.Front.{headingOf, FrontHeld}
 use Rattle.remarks.specs.declared.RemarksRead.{RemarksRead}
 use Rattle.remarks.specs.Held.{remarksAnswer}
-use Rattle.notice.specs.Below.{readBelow, agreement, lastRefusal, recordOf}
+use Rattle.notice.specs.Below.{readBelow, partsMismatch, lastRefusal, recordOf}
 use Rattle.notice.specs.Laws.Front.{front-is}
 
 -- the record of a front, rows and remarks, if its lines agree
@@ -37,16 +37,13 @@ settled f r x = agreeing (headingOf f) (f .serial) (f .aerodrome) (rowsOf r) (ma
 
 -- 10, 11 and 12, or the record
 agreed : (f : Front) (r : Rows) (x : Remarks) (all : Record) → all ≡ makeRecord (f .addresses) (f .filing) (f .title) (rowsOf r) x
-    → pick (eqb (agreement f r) 0) (accepted all) (refused (agreement f r)) ≡ result (settled f r x)
-unfolding agreement agreeing
-agreed f r x all e = go (eqb (f .title .serial) (f .serial)) (sameBytes (f .title .aerodrome) (f .aerodrome)) (eqb (f .time) (latest (rowsOf r)))
+    → pick (eqb (partsMismatch f r) 0) (accepted all) (refused (partsMismatch f r)) ≡ result (settled f r x)
+unfolding agreeing
+agreed f r x all e = go (eqb (partsMismatch f r) 0)
   where
-    go : (a b c : Bool) → pick (eqb (pick a (pick b (pick c 0 12) 11) 10) 0) (accepted all) (refused (pick a (pick b (pick c 0 12) 11) 10))
-        ≡ result (pick a (pick b (pick c (taken (makeRecord (f .addresses) (f .filing) (f .title) (rowsOf r) x)) (refuse 12)) (refuse 11)) (refuse 10))
-    go true true true = ap accepted e
-    go true true false = refl
-    go true false c = refl
-    go false b c = refl
+    go : (b : Bool) → pick b (accepted all) (refused (partsMismatch f r)) ≡ result (pick b (taken (makeRecord (f .addresses) (f .filing) (f .title) (rowsOf r) x)) (refuse (partsMismatch f r)))
+    go true = ap accepted e
+    go false = refl
 
 -- the answer to a message whose front and rows are read, and whose remarks gave this answer
 abbrev judged : Front → Rows → RemarksRead → Reading
@@ -61,7 +58,7 @@ judged-is f r kept (taken x) h = went
     whole : recordOf f r (remarksAnswer (taken x)) ≡ makeRecord (f .addresses) (f .filing) (f .title) (rowsOf r) x
     whole = λ i. record { addresses = f .addresses; filing = f .filing; title = f .title; rows = kept i; items = remarksAnswer (taken x) .items; language = remarksAnswer (taken x) .language }
 
-    went : pick (eqb (agreement f r) 0) (accepted (recordOf f r (remarksAnswer (taken x)))) (refused (agreement f r)) ≡ result (settled f r x)
+    went : pick (eqb (partsMismatch f r) 0) (accepted (recordOf f r (remarksAnswer (taken x)))) (refused (partsMismatch f r)) ≡ result (settled f r x)
     went = agreed f r x (recordOf f r (remarksAnswer (taken x))) whole
 
 -- the rows of the message m gave this answer

@@ -2,9 +2,9 @@
 use Prim.Native.Nat.{ℕ}
 use mathlib.Core.List.{List, []}
 use lib.Dec.{eqb}
-use Rattle.text.specs.Choice.{pick, sameBytes}
+use Rattle.text.specs.Choice.{pick}
 use Rattle.body.specs.declared.Rows.{Rows}
-use Rattle.body.specs.Rows.{mostRows, rowsOf, latest, readRows}
+use Rattle.body.specs.Rows.{mostRows, rowsOf, readRows}
 use Rattle.body.specs.Remarks.{readRemarks}
 use Rattle.remarks.specs.declared.RemarksRead.{RemarksRead}
 use Rattle.front.specs.declared.Front.{Front}
@@ -12,7 +12,7 @@ use Rattle.notice.specs.declared.Record.{Record}
 use Rattle.front.specs.Front.{headingOf}
 use Rattle.text.specs.Out.{Out, next}
 use Rattle.notice.specs.Record.{makeRecord}
-use Rattle.notice.specs.Reading.{agreeing}
+use Rattle.notice.specs.Reading.{mismatch, agreeing}
 
 -- what is read below the front, and whether it agrees with it
 unfoldable pub readBelow : Front → List (List ℕ) → Out Record
@@ -21,14 +21,9 @@ readBelow f ls =
     next (readRemarks (block .after)) (λ remarks.
     agreeing (headingOf f) (f .serial) (f .aerodrome) (block .rows) (makeRecord (f .addresses) (f .filing) (f .title) (block .rows) remarks)))
 
--- the refusal of parts that fit, each by itself: 10, 11, 12, or 0
-unfoldable pub agreement : Front → Rows → ℕ
-agreement f r =
-    pick (eqb (f .title .serial) (f .serial))
-    (pick (sameBytes (f .title .aerodrome) (f .aerodrome))
-    (pick (eqb (f .time) (latest (rowsOf r))) 0 12)
-    11)
-    10
+-- the refusal of parts that fit, each by itself
+abbrev pub partsMismatch : Front → Rows → ℕ
+partsMismatch f r = mismatch (headingOf f) (f .serial) (f .aerodrome) (rowsOf r)
 
 -- the record that the parts make
 abbrev pub recordOf : Front → Rows → RemarksRead → Record
@@ -36,4 +31,4 @@ recordOf f r x = record { addresses = f .addresses; filing = f .filing; title = 
 
 -- the refusal of parts of which the remarks gave this one: it comes first
 unfoldable pub lastRefusal : Front → Rows → ℕ → ℕ
-lastRefusal f r n = pick (eqb n 0) (agreement f r) n
+lastRefusal f r n = pick (eqb n 0) (partsMismatch f r) n

@@ -1,4 +1,4 @@
--- Document 01's message under "Programs", its answer and its text, evaluated.
+-- Document 01's message ("The lister's output"), its answer and its text, evaluated.
 use Prim.Native.Nat.{ℕ}
 use Prim.Native.String.{String}
 use mathlib.Core.Path.{_≡_, refl}
@@ -31,12 +31,12 @@ use Rattle.items.specs.ReadItem.{readLength, readBank, readNeither, readDetail,
 use Rattle.body.specs.Rows.{isAmong, newRunways, latestOf, latestFrom, latest, readRows}
 use Rattle.notice.specs.Record.{blankRecord}
 use Rattle.notice.specs.Notice.{noticeLines, notice, noticeText}
-use Rattle.notice.specs.Reading.{agreeing, readNotice, reading}
+use Rattle.notice.specs.Reading.{mismatch, agreeing, readNotice, reading}
 use Rattle.body.specs.Rows as Rows
 use Rattle.body.specs.declared.Rows.{Rows}
 use Rattle.front.specs.declared.Front.{Front}
 use Rattle.front.specs.Front.{blankFront}
-use Rattle.notice.specs.Below.{agreement, lastRefusal}
+use Rattle.notice.specs.Below.{partsMismatch, lastRefusal}
 
 -- lines, each with its LF
 abbrev pub message : List String → List ℕ
@@ -143,17 +143,17 @@ abbrev one : Rows
 one = Rows.makeRows (record { time = 1120640; number = 7; side = 0; thirds = blankRow .thirds; width = 0 } ∷ [])
 
 pub record Parts : Type 0 where
-  agree : agreement (front 7 7 "XQAA" 1120640) one ≡ 0
-  serials : map (λ n. agreement (front 7 n "XQBB" 1120610) one) (6 ∷ 8 ∷ []) ≡ 10 ∷ 10 ∷ []
-  aerodromes : agreement (front 7 7 "XQBB" 1120610) one ≡ 11
-  times : map (λ t. agreement (front 7 7 "XQAA" t) one) (1120639 ∷ 1120641 ∷ []) ≡ 12 ∷ 12 ∷ []
+  agree : partsMismatch (front 7 7 "XQAA" 1120640) one ≡ 0
+  serials : map (λ n. partsMismatch (front 7 n "XQBB" 1120610) one) (6 ∷ 8 ∷ []) ≡ 10 ∷ 10 ∷ []
+  aerodromes : partsMismatch (front 7 7 "XQBB" 1120610) one ≡ 11
+  times : map (λ t. partsMismatch (front 7 7 "XQAA" t) one) (1120639 ∷ 1120641 ∷ []) ≡ 12 ∷ 12 ∷ []
   -- the refusal of what stands below the rows comes first
   first : map (lastRefusal (front 7 8 "XQAA" 1120640) one) (0 ∷ 1 ∷ 9 ∷ []) ≡ 10 ∷ 1 ∷ 9 ∷ []
 
 pub parts : Parts
-unfolding _and_ latestOf latestFrom latest later agreement lastRefusal
+unfolding _and_ latestOf latestFrom latest later mismatch lastRefusal
 parts = record { agree = refl; serials = refl; aerodromes = refl; times = refl; first = refl }
 
 pub examples : Examples
-unfolding slots flat _and_ lines closed Lines.front ended run past isMark readCount readName readDigits digits spell skip readText readMany validRunway isShortMonth daysOf realDay realClock realTime later isContaminant isDeep isCoverage validCoverage leastDepth isReported validDepth validThird measurePieces readMeasure readCoverage readDescription thirdPieces readThird highest readGroup readFull readShort readWidth readRow threeThat validRow isBare isSix isDry isShort middlePieces widthPieces rowPieces addressesPieces readAddresses realFiling filingPieces readFiling headingPieces readHeading serialPieces readSerialLine aerodromePieces readAerodrome isLetters sameRunway otherApron mayRepeat mayFollow inOrder awarenessPieces readAwareness wholeAwareness onRunway onTaxiways runwayFits amountFits edgeFits countFits isTaxiway validSlot isNew slotsFit taxiwaysFit nameFits numbersFit validItem itemText itemPieces lastIs validLanguage wholeLanguage readLength readBank readNeither readDetail readTaxiway readTaxiways readApron readRunwayForm readTaxiForm readApronForm readBareForm readForm readBody readItem isAmong newRunways latestOf latestFrom latest readRows noticeLines notice noticeText agreeing readNotice reading Rows.sameRunway
+unfolding slots flat _and_ lines closed Lines.front ended run past isMark readCount readName readDigits digits spell skip readText readMany validRunway isShortMonth daysOf realDay realClock realTime later isContaminant isDeep isCoverage validCoverage leastDepth isReported validDepth validThird measurePieces readMeasure readCoverage readDescription thirdPieces readThird highest readGroup readFull readShort readWidth readRow threeThat validRow isBare isSix isDry isShort middlePieces widthPieces rowPieces addressesPieces readAddresses realFiling filingPieces readFiling headingPieces readHeading serialPieces readSerialLine aerodromePieces readAerodrome isLetters sameRunway otherApron mayRepeat mayFollow inOrder awarenessPieces readAwareness wholeAwareness onRunway onTaxiways runwayFits amountFits edgeFits countFits isTaxiway validSlot isNew slotsFit taxiwaysFit nameFits numbersFit validItem itemText itemPieces lastIs validLanguage wholeLanguage readLength readBank readNeither readDetail readTaxiway readTaxiways readApron readRunwayForm readTaxiForm readApronForm readBareForm readForm readBody readItem isAmong newRunways latestOf latestFrom latest readRows noticeLines notice noticeText mismatch agreeing readNotice reading Rows.sameRunway
 examples = record { accepted = refl; rows = refl; items = refl; rewritten = refl; missing = refl; blank = refl; body = refl; remarks = refl; ninth = refl; differing = refl }

@@ -16,14 +16,18 @@ use Rattle.notice.specs.declared.Record.{Record}
 use Rattle.notice.specs.declared.Reading.{Reading}
 use Rattle.notice.specs.Record.{makeRecord, blankRecord}
 
--- "serials differ; aerodromes differ; heading time not the latest"
-unfoldable pub agreeing : Heading → ℕ → List ℕ → List Row → Record → Out Record
-agreeing h serial aerodrome rows r =
+-- "serials differ; aerodromes differ; heading time not the latest": 10, 11, 12, or 0 where the lines agree
+unfoldable pub mismatch : Heading → ℕ → List ℕ → List Row → ℕ
+mismatch h serial aerodrome rows =
     pick (eqb (h .title .serial) serial)
     (pick (sameBytes (h .title .aerodrome) aerodrome)
-    (pick (eqb (h .time) (latest rows)) (taken r) (refuse 12))
-    (refuse 11))
-    (refuse 10)
+    (pick (eqb (h .time) (latest rows)) 0 12)
+    11)
+    10
+
+-- the record, where they agree
+unfoldable pub agreeing : Heading → ℕ → List ℕ → List Row → Record → Out Record
+agreeing h serial aerodrome rows r = pick (eqb (mismatch h serial aerodrome rows) 0) (taken r) (refuse (mismatch h serial aerodrome rows))
 
 -- "A missing line 1 or 2 gives 2, a missing line 3 gives 3, any later one 4"
 unfoldable pub readNotice : List (List ℕ) → Out Record

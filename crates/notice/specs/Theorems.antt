@@ -1,5 +1,5 @@
--- Demand 2: "A message of at most 4,096 bytes is accepted exactly when some valid record's text differs from it only by the four
--- freedoms, and that record is the one returned. A written valid record reads back as that record."
+-- Demand 2: a message of at most 4,096 bytes is accepted exactly when some valid record's text differs from it only by the four
+-- freedoms, and that record is the one returned. A written valid record reads back as that record.
 use Prim.Native.Nat.{ℕ, _≤_}
 use mathlib.Core.Path.{_≡_, refl, sym, subst, _∙_, ap}
 use mathlib.Core.List.{List}

@@ -15,7 +15,7 @@ ghost use Rattle.notice.specs.Notice.{noticeText};
 ghost use Rattle.notice.specs.Writing.{Wrote};
 ghost use Rattle.notice.specs.Rewriting.{Rewrote};
 ghost use Rattle.notice.specs.Reading.{accepted, refused, reading};
-ghost use Rattle.notice.specs.Below.{agreement, lastRefusal, recordOf};
+ghost use Rattle.notice.specs.Below.{partsMismatch, lastRefusal, recordOf};
 use body::Items;
 use body::Language;
 use body::Rows;
@@ -75,8 +75,8 @@ pub struct Written {
 // ---- Reading
 
 // 10, 11, 12 in that order, or 0 where the lines agree.
-fn agreement(front: Front, rows: Rows) -> u8
-    ensures { λ r. ⌜ r ≡ agreement front rows ⌝ }
+fn mismatch(front: Front, rows: Rows) -> u8
+    ensures { λ r. ⌜ r ≡ partsMismatch front rows ⌝ }
 {
     let title = front.title;
     if title.serial as u32 != front.serial {
@@ -131,7 +131,7 @@ fn last_refusal(front: Front, rows: Rows, remarks: u8) -> u8
     if remarks != 0 {
         return remarks;
     }
-    agreement(front, rows)
+    mismatch(front, rows)
 }
 
 // The answer to a message whose parts fit and agree.
@@ -156,7 +156,7 @@ fn accepted(front: Front, rows: Rows, remarks: RemarksRead) -> Reading
     }
 }
 
-const LONGEST: usize = 4096;
+pub const LONGEST: usize = 4096;
 
 const TOO_LONG: u8 = 1;
 

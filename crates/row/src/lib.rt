@@ -27,6 +27,7 @@ use runway::put_runway;
 use runway::read_runway;
 use runway::real_time;
 use runway::valid_runway;
+use surface::BLANK_THIRD;
 use surface::Third;
 use surface::agrees;
 use surface::description;
@@ -59,7 +60,7 @@ pub struct Row {
 
 // ---- The rules of a row
 
-const HIGHEST_RUNWAY: u8 = 18;
+pub const HIGHEST_RUNWAY: u8 = 18;
 
 const GREATEST_WIDTH: u8 = 99;
 
@@ -89,13 +90,6 @@ pub fn valid_row(r: Row) -> bool
     }
     false
 }
-
-const BLANK_THIRD: Third = Third {
-    code: 0,
-    coverage: 0,
-    depth: 0,
-    description: 0,
-};
 
 pub fn blank_row() -> Row
     ensures { λ r. ⌜ r ≡ blankRow ⌝ }
@@ -204,7 +198,7 @@ pub struct Agreement {
     pub count: u8,
 }
 
-const INVALID_ROW: u8 = 19;
+pub const INVALID_ROW: u8 = 19;
 
 fn disagrees(t: Third) -> u8
     ensures { λ r. ⌜ r ≡ disagrees t ⌝ }
@@ -419,7 +413,7 @@ fn width(s: &[u8]) -> Found
 
 const GROUPS: u8 = 5;
 
-const REFUSED_ROW: u8 = 5;
+pub const REFUSED_ROW: u8 = 5;
 
 // 0 at the line's end, else the refusal of what is left.
 fn ending(line: &[u8], at: usize) -> u8

@@ -1,6 +1,6 @@
--- The test of each part says yes exactly where the two are equal.
+-- The test of each part says yes exactly where the two are equal; of rows and items where both are valid, so blank past the count.
 use Prim.Native.Nat.{ℕ}
-use mathlib.Core.Path.{_≡_, refl}
+use mathlib.Core.Path.{_≡_, refl, sym, _∙_, ap}
 use mathlib.Core.Bool.{true}
 use lib.Dec.{eqb}
 use borrow.Author.Tests.{eqb-true, eq-eqb}
@@ -15,6 +15,9 @@ use Rattle.heading.specs.declared.Title.{Title}
 use Rattle.body.specs.declared.Rows.{Rows}
 use Rattle.body.specs.declared.Items.{Items}
 use Rattle.body.specs.declared.Language.{Language}
+use Rattle.body.specs.Rows.{rowsOf, makeRows, validRows}
+use Rattle.body.specs.Remarks.{itemsOf, makeItems, holdsItems}
+use Rattle.body.specs.Laws.Parts.{rows-made, items-made}
 use Rattle.sameness.specs.Same.{sameAddresses, sameFiling, sameTitle, sameThird, sameRow, sameRows, sameNumbers, sameItem, sameItems, sameLanguage}
 
 self : (n : ℕ) → eqb n n ≡ true
@@ -91,16 +94,17 @@ same-row : (a : Row) → sameRow a a ≡ true
 unfolding sameRow
 same-row a = and-i (self (a .time)) (and-i (self (a .number)) (and-i (self (a .side)) (and-i (self (a .width)) (same-all sameThird same-third (a .thirds)))))
 
-pub rows-same : (a b : Rows) → sameRows a b ≡ true → a ≡ b
+pub rows-same : (a b : Rows) → validRows a ≡ true → validRows b ≡ true → sameRows a b ≡ true → a ≡ b
 unfolding sameRows
-rows-same a b h =
+rows-same a b v w h =
     let n = eqb-true (a .count) (b .count) (and-1 _ _ h) in
-    let x = all-same sameRow row-same (a .rows) (b .rows) (and-2 _ _ h) in
-    λ i. record { count = n i; rows = x i }
+    let x = all-same sameRow row-same (rowsOf a) (rowsOf b) (and-2 _ _ h) in
+    let y = sym (rows-made a v) ∙ (ap makeRows x ∙ rows-made b w) in
+    λ i. record { count = n i; rows = y i .rows }
 
 pub same-rows : (a : Rows) → sameRows a a ≡ true
 unfolding sameRows
-same-rows a = and-i (self (a .count)) (same-all sameRow same-row (a .rows))
+same-rows a = and-i (self (a .count)) (same-all sameRow same-row (rowsOf a))
 
 -- items and plain language
 item-same : (a b : Item) → sameItem a b ≡ true → a ≡ b
@@ -130,16 +134,17 @@ same-item : (a : Item) → sameItem a a ≡ true
 unfolding sameItem
 same-item a = and-i (same-numbers a) (and-i (same-refl (a .taxiways)) (same-refl (a .name)))
 
-pub items-same : (a b : Items) → sameItems a b ≡ true → a ≡ b
+pub items-same : (a b : Items) → holdsItems a ≡ true → holdsItems b ≡ true → sameItems a b ≡ true → a ≡ b
 unfolding sameItems
-items-same a b h =
+items-same a b v w h =
     let n = eqb-true (a .count) (b .count) (and-1 _ _ h) in
-    let x = all-same sameItem item-same (a .items) (b .items) (and-2 _ _ h) in
-    λ i. record { count = n i; items = x i }
+    let x = all-same sameItem item-same (itemsOf a) (itemsOf b) (and-2 _ _ h) in
+    let y = sym (items-made a v) ∙ (ap makeItems x ∙ items-made b w) in
+    λ i. record { count = n i; items = y i .items }
 
 pub same-items : (a : Items) → sameItems a a ≡ true
 unfolding sameItems
-same-items a = and-i (self (a .count)) (same-all sameItem same-item (a .items))
+same-items a = and-i (self (a .count)) (same-all sameItem same-item (itemsOf a))
 
 pub language-same : (a b : Language) → sameLanguage a b ≡ true → a ≡ b
 unfolding sameLanguage

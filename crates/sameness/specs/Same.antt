@@ -1,4 +1,4 @@
--- Two parts of a record are the same in every field; an array in full, what stands past a count with it.
+-- Two parts of a record are the same in every field: rows and items as far as the count goes, any other array in full.
 use mathlib.Core.Bool.{Bool}
 use lib.Dec.{eqb}
 use Rattle.text.specs.Choice.{_and_, sameAll, sameBytes}
@@ -11,6 +11,8 @@ use Rattle.heading.specs.declared.Title.{Title}
 use Rattle.body.specs.declared.Rows.{Rows}
 use Rattle.body.specs.declared.Items.{Items}
 use Rattle.body.specs.declared.Language.{Language}
+use Rattle.body.specs.Rows.{rowsOf}
+use Rattle.body.specs.Remarks.{itemsOf}
 
 -- line 1
 unfoldable pub sameAddresses : Addresses → Addresses → Bool
@@ -37,9 +39,9 @@ sameRow a b =
     and eqb (a .width) (b .width)
     and sameAll sameThird (a .thirds) (b .thirds)
 
--- the rows of a record
+-- the rows of a record: as many, and the same one by one
 unfoldable pub sameRows : Rows → Rows → Bool
-sameRows a b = eqb (a .count) (b .count) and sameAll sameRow (a .rows) (b .rows)
+sameRows a b = eqb (a .count) (b .count) and sameAll sameRow (rowsOf a) (rowsOf b)
 
 -- the letter of an item and its numbers
 unfoldable pub sameNumbers : Item → Item → Bool
@@ -55,9 +57,9 @@ sameNumbers a b =
 unfoldable pub sameItem : Item → Item → Bool
 sameItem a b = sameNumbers a b and sameBytes (a .taxiways) (b .taxiways) and sameBytes (a .name) (b .name)
 
--- the items of a record
+-- the items of a record: as many, and the same one by one
 unfoldable pub sameItems : Items → Items → Bool
-sameItems a b = eqb (a .count) (b .count) and sameAll sameItem (a .items) (b .items)
+sameItems a b = eqb (a .count) (b .count) and sameAll sameItem (itemsOf a) (itemsOf b)
 
 -- the plain language of a record
 unfoldable pub sameLanguage : Language → Language → Bool

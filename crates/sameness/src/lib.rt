@@ -1,14 +1,16 @@
-// Whether two parts of a record are the same, field by field: numbers first, which are cheap, and arrays in full.
+// Whether two parts of a record are the same, field by field: numbers first, which are cheap.
 ghost use mathlib.Core.Path.{_≡_};
 ghost use Rattle.text.specs.Choice.{sameAll};
 ghost use Rattle.sameness.specs.Same.{sameAddresses, sameFiling, sameTitle, sameThird, sameRow, sameRows, sameNumbers, sameItem, sameItems, sameLanguage};
 use body::Items;
 use body::Language;
+use body::MOST_ROWS;
 use body::Rows;
 use heading::Addresses;
 use heading::Filing;
 use heading::Title;
 use items::Item;
+use items::MOST_ITEMS;
 use row::Row;
 use surface::Third;
 use text::same_bytes;
@@ -63,8 +65,6 @@ pub fn same_title(a: Title, b: Title) -> bool
 
 const THIRDS: usize = 3;
 
-const ROWS: usize = 8;
-
 // A third is four numbers.
 fn same_third(a: Third, b: Third) -> bool
     ensures { λ r. ⌜ r ≡ sameThird a b ⌝ }
@@ -117,17 +117,20 @@ fn same_row(a: Row, b: Row) -> bool
     same_thirds(a, b)
 }
 
-// All eight places: a row past the count is blank in a valid record, and compared all the same.
+// As many as the count says: what stands past it is blank in every record that is read.
 pub fn same_rows(a: Rows, b: Rows) -> bool
     ensures { λ r. ⌜ r ≡ sameRows a b ⌝ }
 {
     if a.count != b.count {
         return false;
     }
-    let mut i = 0;
-    while i < ROWS {
-        let x = a.rows[i];
-        let y = b.rows[i];
+    let mut i: u8 = 0;
+    while i < MOST_ROWS {
+        if a.count <= i {
+            return true;
+        }
+        let x = a.rows[i as usize];
+        let y = b.rows[i as usize];
         if same_row(x, y) {
             i += 1;
         } else {
@@ -138,8 +141,6 @@ pub fn same_rows(a: Rows, b: Rows) -> bool
 }
 
 // ---- Items and plain language
-
-const ITEMS: usize = 32;
 
 // The letter of an item and its numbers.
 fn same_numbers(a: Item, b: Item) -> bool
@@ -179,17 +180,20 @@ fn same_item(a: Item, b: Item) -> bool
     false
 }
 
-// All 32 places, as with the rows.
+// As many as the count says, as with the rows.
 pub fn same_items(a: Items, b: Items) -> bool
     ensures { λ r. ⌜ r ≡ sameItems a b ⌝ }
 {
     if a.count != b.count {
         return false;
     }
-    let mut i = 0;
-    while i < ITEMS {
-        let x = a.items[i];
-        let y = b.items[i];
+    let mut i: u8 = 0;
+    while i < MOST_ITEMS {
+        if a.count <= i {
+            return true;
+        }
+        let x = a.items[i as usize];
+        let y = b.items[i as usize];
         if same_item(x, y) {
             i += 1;
         } else {

@@ -86,6 +86,6 @@ isDescription d = leb d dry
 unfoldable pub isContaminant : ℕ → Bool
 isContaminant d = leb compactedSnow d and leb d wetSnowOnIce
 
--- the four deep ones: "STANDING WATER, SLUSH, WET SNOW and DRY SNOW"
+-- the four deep ones: "STANDING WATER (from 04), SLUSH, WET SNOW and DRY SNOW (each from 03)"
 unfoldable pub isDeep : ℕ → Bool
 isDeep d = member (standingWater ∷ slush ∷ wetSnow ∷ drySnow ∷ []) d

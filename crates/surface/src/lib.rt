@@ -497,7 +497,7 @@ const OUT_OF_RANGE: u8 = 15;
 
 const CONTRADICTORY: u8 = 16;
 
-const BLANK_THIRD: Third = Third {
+pub const BLANK_THIRD: Third = Third {
     code: 0,
     coverage: NR,
     depth: 0,

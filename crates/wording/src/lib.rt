@@ -12,6 +12,8 @@ ghost use Rattle.items.specs.Item.{nameAtFront};
 ghost use Rattle.items.specs.ItemText.{edgeName, ofRunway, lengthText, bankText, ofTaxiways, poorTaxiways, poorApron, itemText, itemPieces};
 ghost use Rattle.wording.specs.Slots.{FrontSlot, taxiwayNames};
 use items::Item;
+use items::MOST_ITEMS;
+use items::TAXIWAY_SIZE;
 use runway::put_runway;
 use text::CAPITALS_AND_DIGITS;
 use text::counted;
@@ -19,10 +21,6 @@ use text::put;
 use text::put_digits;
 use text::run;
 use text::told_behind;
-
-const TAXIWAY_SIZE: usize = 3;
-
-const MOST_ITEMS: u8 = 32;
 
 // ---- Writing an item
 

@@ -6,6 +6,7 @@ use mathlib.Core.Bool.{Bool, true, false}
 use lib.ListN.{length, take, getD, replicate, length-append}
 use borrow.Author.Tests.{eqb-true, leb-true}
 use native.Mathlib.Omega.{arith}
+use Rattle.text.specs.Held.{isSpace}
 use Rattle.text.specs.Choice.{pick, _and_, all, headIs}
 use Rattle.text.specs.Piece.{Typing, canonical, end, _then_}
 use Rattle.text.specs.Read.{Got, misfit, got, whole, readAs}
@@ -35,7 +36,7 @@ use Rattle.board.specs.Report.{rowAt}
 use Rattle.board.specs.Shows.{nothing, row, shownAt}
 use Rattle.board.specs.Laws.Rules.{blank-invalid, rules, used, fit-at}
 use Rattle.board.specs.Laws.Demand.{opened as was-opened}
-use Rattle.board.specs.Line.{isSpace, spacedPieces, readSpaced, makeRunway, openingPieces, readOpening, opened, openingLine}
+use Rattle.board.specs.Line.{spacedPieces, readSpaced, makeRunway, openingPieces, readOpening, opened, openingLine}
 
 -- a number of two digits and a side: what a line can hold
 abbrev pub Written : Runway → Type 0

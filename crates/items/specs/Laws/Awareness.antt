@@ -9,7 +9,7 @@ use borrow.Author.Tests.{eqb-true, leb-true, le-leb}
 use native.Mathlib.Omega.{arith}
 use Rattle.text.specs.Choice.{_and_, all}
 use Rattle.text.specs.Piece.{Piece, loose, Typed, done, layAll}
-use Rattle.text.specs.Read.{Got, misfit, got, skip, readText, readSeq, readAs, readIf, readLoose, readMany}
+use Rattle.text.specs.Read.{misfit, got, skip, readText, readSeq, readAs, readLoose, readMany}
 use Rattle.text.specs.Names.{isLetter, readName}
 use Rattle.text.specs.Arrays.{isZero}
 use Rattle.text.specs.Laws.Base.{Laws, Head, Any, inline, and-1, and-2, and-i, carry, then-got, guard-got, not-space}
@@ -36,9 +36,6 @@ some-laws = loosen (seq-laws item-laws (many-laws (loose-laws item-laws (not-spa
 none-next : readItem (skip []) ≡ misfit
 unfolding readItem readBody skip readName readText
 none-next = refl
-
-abbrev readSome : List ℕ → Got (List Item)
-readSome = readIf inOrder (readAs (λ p. p .0 ∷ p .1) (readSeq readItem (readMany (readLoose readItem) 31)))
 
 valid-some : (p : Item × List Item) → Some p → inOrder (p .0 ∷ p .1) ≡ true → validItems (p .0 ∷ p .1) ≡ true
 unfolding validItems soundItems

@@ -12,7 +12,6 @@ use Rattle.text.specs.Names.{isName, isMark, isPlainByte}
 use Rattle.text.specs.Laws.Base.{Laws, Any, inner, and-1, and-2, guard-got, carry}
 use Rattle.text.specs.Laws.Names.{name-inner, verbatim-inline}
 use Rattle.text.specs.Laws.Many.{every-at}
-use Rattle.text.specs.Laws.Sizes.{size, verbatim-size}
 use Rattle.items.specs.Language.{validLanguage, wholeLanguage}
 
 plain-inner : (b : ℕ) → isPlainByte b ≡ true → inner b ≡ true
@@ -48,7 +47,3 @@ verbatim-bytes (x ∷ l) = ap (λ k. x ∷ k) (verbatim-bytes l)
 pub language-short : (l : List ℕ) → validLanguage l ≡ true → length l ≤ 400
 unfolding validLanguage
 language-short l h = leb-true (length l) 400 (and-1 _ _ (and-2 _ _ h))
-
--- and has at most 400 bytes
-pub language-size : (l : List ℕ) → validLanguage l ≡ true → size (verbatim l) ≤ 400
-language-size l h = rw verbatim-size (language-short l h)

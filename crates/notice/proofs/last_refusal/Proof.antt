@@ -8,12 +8,12 @@ returns : tie.Need-returns
 unfolding lastRefusal
 returns c = rw (ne-eqb _ _ (c .if1 .taken))
 
-agreement-requires : tie.Need-agreement-requires
-agreement-requires c κs = search needs
+mismatch-requires : tie.Need-mismatch-requires
+mismatch-requires c κs = search needs
 
 returns-2 : tie.Need-returns-2
 unfolding lastRefusal
-returns-2 c = rw (eq-eqb _ _ (c .before .if1 .left)) (c .agreement .ensures)
+returns-2 c = rw (eq-eqb _ _ (c .before .if1 .left)) (c .mismatch .ensures)
 
 pub last-refusal-spec : {M : Type 1} → statement M
-last-refusal-spec = tie.close (tie.spec returns agreement-requires returns-2)
+last-refusal-spec = tie.close (tie.spec returns mismatch-requires returns-2)

@@ -27,12 +27,12 @@ use Rattle.heading.specs.Laws.Heading.{heading-laws, serial-line-laws, aerodrom
 use Rattle.text.specs.Out.{Out, refuse, taken, line}
 use Rattle.body.specs.Rows.{mostRows, latest, readRows}
 use Rattle.body.specs.Remarks.{remarkLines, languageLines, noneOrLanguage, readRemarks}
-use Rattle.text.specs.Laws.Out.{no-refuse, took, fit-took, next-took, line-numbered, next-numbered, pick-numbered, Numbered}
+use Rattle.text.specs.Laws.Out.{no-refuse, took, fit-took, next-took, line-numbered, next-numbered, Numbered}
 use Rattle.body.specs.Laws.Rows.{rows-sound, rows-numbered, Told, last-line, one-line, told, rows-complete}
 use Rattle.body.specs.Laws.Remarks.{remarks-sound, remarks-complete, remarks-tail, remarks-numbered}
 use Rattle.notice.specs.declared.Record.{Record}
 use Rattle.notice.specs.Record.{makeRecord}
-use Rattle.notice.specs.Reading.{agreeing, readNotice}
+use Rattle.notice.specs.Reading.{mismatch, agreeing, readNotice}
 use Rattle.notice.specs.Laws.Parts.{Parts, made, partLines, Good, title-valid}
 
 -- inversion of a line, and of the agreement at the end
@@ -56,11 +56,11 @@ record Agreed (h : Heading) (serial : ℕ) (aerodrome : List ℕ) (rows : List R
   same : taken r ≡ taken s
 
 agree-took : (h : Heading) (serial : ℕ) (aerodrome : List ℕ) (rows : List Row) (r : Record) {s : Record} → agreeing h serial aerodrome rows r ≡ taken s → Agreed h serial aerodrome rows r s
-unfolding agreeing
+unfolding agreeing mismatch
 agree-took h serial aerodrome rows r {s} e = go (eqb (h .title .serial) serial) refl (sameBytes (h .title .aerodrome) aerodrome) refl (eqb (h .time) (latest rows)) refl e
   where
     go : (a : Bool) → eqb (h .title .serial) serial ≡ a → (b : Bool) → sameBytes (h .title .aerodrome) aerodrome ≡ b → (c : Bool) → eqb (h .time) (latest rows) ≡ c
-        → pick a (pick b (pick c (taken r) (refuse 12)) (refuse 11)) (refuse 10) ≡ taken s → Agreed h serial aerodrome rows r s
+        → pick (eqb (pick a (pick b (pick c 0 12) 11) 10) 0) (taken r) (refuse (pick a (pick b (pick c 0 12) 11) 10)) ≡ taken s → Agreed h serial aerodrome rows r s
     go true p true q true t f = record { serials = eqb-true (h .title .serial) serial p; aerodromes = same-true (h .title .aerodrome) aerodrome q; times = eqb-true (h .time) (latest rows) t; same = f }
     go true p true q false t f = no-refuse f
     go true p false q c t f = no-refuse f
@@ -134,7 +134,7 @@ unfolding validTitle
 serial-of h v = and-1 _ _ (and-2 _ _ v)
 
 pub notice-complete : (p : Parts) {ls : List (List ℕ)} → Good p → Tells (partLines p) ls → readNotice ls ≡ taken (made p)
-unfolding readNotice agreeing validTitle
+unfolding readNotice agreeing mismatch validTitle
 notice-complete p {ls} g t =
     let l₁ = line-of refl t in
     let l₂ = line-of refl (l₁ .tells) in
@@ -154,11 +154,14 @@ notice-complete p {ls} g t =
 
 -- every refusal has a number from 1 to 12
 agree-numbered : (h : Heading) (serial : ℕ) (aerodrome : List ℕ) (rows : List Row) (r : Record) → Numbered (agreeing h serial aerodrome rows r)
-unfolding agreeing
-agree-numbered h serial aerodrome rows r =
-    pick-numbered (eqb (h .title .serial) serial) _ _
-    (pick-numbered (sameBytes (h .title .aerodrome) aerodrome) _ _
-    (pick-numbered (eqb (h .time) (latest rows)) (taken r) (refuse 12) tt (lit< tt, lit≤ tt)) (lit< tt, lit≤ tt)) (lit< tt, lit≤ tt)
+unfolding agreeing mismatch
+agree-numbered h serial aerodrome rows r = go (eqb (h .title .serial) serial) (sameBytes (h .title .aerodrome) aerodrome) (eqb (h .time) (latest rows))
+  where
+    go : (a b c : Bool) → Numbered (pick (eqb (pick a (pick b (pick c 0 12) 11) 10) 0) (taken r) (refuse (pick a (pick b (pick c 0 12) 11) 10)))
+    go true true true = tt
+    go true true false = (lit< tt, lit≤ tt)
+    go true false c = (lit< tt, lit≤ tt)
+    go false b c = (lit< tt, lit≤ tt)
 
 pub notice-numbered : (ls : List (List ℕ)) → Numbered (readNotice ls)
 unfolding readNotice

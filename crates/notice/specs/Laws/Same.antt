@@ -7,12 +7,17 @@ use Rattle.text.specs.Laws.Base.{and-1, and-2, and-i, true-false}
 use Rattle.sameness.specs.Laws.{addresses-same, same-addresses, filing-same, same-filing, title-same, same-title, rows-same, same-rows, items-same, same-items, language-same, same-language}
 use Rattle.notice.specs.declared.Record.{Record}
 use Rattle.notice.specs.declared.Reading.{Reading}
+use Rattle.notice.specs.Record.{validRecord}
 use Rattle.notice.specs.Reading.{accepted, reading}
 use Rattle.notice.specs.Same.{TellSame, SaysSame, sameRecord}
+use Rattle.notice.specs.Theorems.{read-valid}
 
-record-same : (a b : Record) → sameRecord a b ≡ true → a ≡ b
-unfolding sameRecord
-record-same a b e =
+-- of valid records, since rows and items are compared only as far as the count goes
+record-same : (a b : Record) → validRecord a ≡ true → validRecord b ≡ true → sameRecord a b ≡ true → a ≡ b
+unfolding sameRecord validRecord
+record-same a b v w e =
+    let v₁ = and-2 _ _ (and-2 _ _ (and-2 _ _ v)) in
+    let w₁ = and-2 _ _ (and-2 _ _ (and-2 _ _ w)) in
     let e₂ = and-2 _ _ e in
     let e₃ = and-2 _ _ e₂ in
     let e₄ = and-2 _ _ e₃ in
@@ -20,8 +25,8 @@ record-same a b e =
     let t = title-same (a .title) (b .title) (and-1 _ _ e) in
     let f = filing-same (a .filing) (b .filing) (and-1 _ _ e₂) in
     let x = addresses-same (a .addresses) (b .addresses) (and-1 _ _ e₃) in
-    let r = rows-same (a .rows) (b .rows) (and-1 _ _ e₄) in
-    let is = items-same (a .items) (b .items) (and-1 _ _ e₅) in
+    let r = rows-same (a .rows) (b .rows) (and-1 _ _ v₁) (and-1 _ _ w₁) (and-1 _ _ e₄) in
+    let is = items-same (a .items) (b .items) (and-1 _ _ (and-2 _ _ v₁)) (and-1 _ _ (and-2 _ _ w₁)) (and-1 _ _ e₅) in
     let l = language-same (a .language) (b .language) (and-2 _ _ e₅) in
     λ i. record { addresses = x i; filing = f i; title = t i; rows = r i; items = is i; language = l i }
 
@@ -49,7 +54,7 @@ module _ (a b : List ℕ) (x : Reading) (first : x ≡ reading a) where
     pub compared : x .refusal ≡ 0 → y .refusal ≡ 0 → (r : Bool) → r ≡ sameRecord (x .«record») (y .«record») → SaysSame a b r
     compared p q r e = (
       λ z.
-          let s = record-same (x .«record») (y .«record») (sym e ∙ z) in
+          let s = record-same (x .«record») (y .«record») (read-valid a x first p) (read-valid b y second q) (sym e ∙ z) in
           let u : x ≡ accepted (x .«record») = λ i. record { refusal = p i; «record» = x .«record» } in
           let v : y ≡ accepted (x .«record») = λ i. record { refusal = q i; «record» = sym s i } in
           record { tells = x .«record»; one = sym first ∙ u; other = sym second ∙ v },

@@ -1,6 +1,7 @@
-use mathlib.Core.Path.{refl, sym, _∙_}
+use mathlib.Core.Path.{sym, _∙_}
 use Prim.Native.Nat.{_-_}
 use lib.ListN.{length-map}
+use lib.Seq.{take-all}
 use Rattle.text.specs.Choice.{sameAll}
 use Rattle.sameness.specs.Same.{sameThird}
 use Rattle.sameness.proofs.Loops.{Left, left-on, left-off, left-end}
@@ -9,18 +10,16 @@ use Rattle.sameness.proofs.same_thirds.Statement.{statement}
 use Rattle.sameness.proofs.same_thirds.Tie as tie
 
 abbrev Inv-loop : tie.InvT-loop
-Inv-loop a b i₀ i = Left sameThird 3 (a .thirds) (b .thirds) (sameAll sameThird (a .thirds) (b .thirds)) i
+Inv-loop a b i₀ i = Left sameThird 3 3 (a .thirds) (b .thirds) (sameAll sameThird (a .thirds) (b .thirds)) i
 
 abbrev μ-loop : tie.MeasureT-loop
 μ-loop a b i₀ i = 3 - i
 
 loop-holds : tie.Need-loop-holds Inv-loop μ-loop
-loop-holds c = record {
-  one = simp length-map at (c .good .0 .1 .1 .1 .1 .1 .0 .1 .0 .1);
-  two = simp length-map at (c .good .1 .0 .1 .1 .1 .1 .1 .0 .1 .0 .1);
-  within = search needs;
-  is = refl;
-}
+loop-holds c =
+    let x = simp length-map at (c .good .0 .1 .1 .1 .1 .1 .0 .1 .0 .1) in
+    let y = simp length-map at (c .good .1 .0 .1 .1 .1 .1 .1 .0 .1 .0 .1) in
+    record { one = x; two = y; is = rw (take-all 3 (c .args .t1 .thirds) (search needs), take-all 3 (c .args .t2 .thirds) (search needs)) }
 
 mul-x : tie.Need-mul-x Inv-loop μ-loop
 mul-x c = search needs
@@ -44,10 +43,10 @@ loop-less : tie.Need-loop-less Inv-loop μ-loop
 loop-less c = search needs
 
 loop-again : tie.Need-loop-again Inv-loop μ-loop
-loop-again c = left-on sameThird (c .before .before .before .before .before .loop .inv) _ (search needs) (sym (c .before .same-third .ensures) ∙ c .if1 .taken)
+loop-again c = left-on sameThird (c .before .before .before .before .before .loop .inv) _ (search needs) (search needs) (sym (c .before .same-third .ensures) ∙ c .if1 .taken)
 
 returns : tie.Need-returns Inv-loop μ-loop
-returns c = left-off sameThird (c .before .before .before .before .before .loop .inv) _ (search needs) (sym (c .before .same-third .ensures) ∙ c .if1 .left)
+returns c = left-off sameThird (c .before .before .before .before .before .loop .inv) _ (search needs) (search needs) (sym (c .before .same-third .ensures) ∙ c .if1 .left)
 
 returns-2 : tie.Need-returns-2 Inv-loop μ-loop
 returns-2 c = left-end sameThird (c .before .loop .inv) (search needs)

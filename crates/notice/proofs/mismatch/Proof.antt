@@ -1,15 +1,15 @@
-use Rattle.notice.specs.Below.{agreement}
+use Rattle.notice.specs.Reading.{mismatch}
 use borrow.Author.Tests.{eq-eqb, ne-eqb, not-true, not-false}
 use mathlib.Core.Path.{sym, _∙_}
 use borrow.Author.Needs.{needs}
-use Rattle.notice.proofs.agreement.Statement.{statement}
-use Rattle.notice.proofs.agreement.Tie as tie
+use Rattle.notice.proofs.mismatch.Statement.{statement}
+use Rattle.notice.proofs.mismatch.Tie as tie
 
 cast-if1 : tie.Need-cast-if1
 cast-if1 c = search needs
 
 returns : tie.Need-returns
-unfolding agreement
+unfolding mismatch
 returns c = rw (ne-eqb _ _ (c .if1 .taken))
 
 slice-aggregate-same-bytes : tie.Need-slice-aggregate-same-bytes
@@ -22,22 +22,22 @@ same-bytes-requires : tie.Need-same-bytes-requires
 same-bytes-requires c κs = search needs
 
 returns-2 : tie.Need-returns-2
-unfolding agreement
+unfolding mismatch
 returns-2 c = let c₁ = c .before .before .before .before .before .before in let e = sym (c .before .same-bytes .ensures) ∙ not-true _ (c .if2 .taken) in rw (eq-eqb _ _ (c₁ .if1 .left), e)
 
 latest-time-requires : tie.Need-latest-time-requires
 latest-time-requires c κs = search needs
 
 returns-3 : tie.Need-returns-3
-unfolding agreement
+unfolding mismatch
 returns-3 c = let c₁ = c .before .before .before in let c₂ = c₁ .before .before .before .before .before .before in let e = sym (c₁ .before .same-bytes .ensures) ∙ not-false _ (c₁ .if2 .left) in rw (eq-eqb _ _ (c₂ .if1 .left), e, ← (c .before .before .latest-time .ensures), ne-eqb _ _ (c .if3 .taken))
 
 returns-4 : tie.Need-returns-4
-unfolding agreement
+unfolding mismatch
 returns-4 c = let c₁ = c .before .before .before in let c₂ = c₁ .before .before .before .before .before .before in let e = sym (c₁ .before .same-bytes .ensures) ∙ not-false _ (c₁ .if2 .left) in rw (eq-eqb _ _ (c₂ .if1 .left), e, ← (c .before .before .latest-time .ensures), eq-eqb _ _ (c .if3 .left))
 
-pub agreement-spec : {M : Type 1} → statement M
-agreement-spec =
+pub mismatch-spec : {M : Type 1} → statement M
+mismatch-spec =
     tie.close
     (tie.spec
     cast-if1
