@@ -39,7 +39,7 @@ def answers(message):
         return "REFUSED 17\n"
     out, taken = ["OPEN"], {}
     for line in lines[1:]:
-        told = answer(line) if len(line) <= 4096 else "5"
+        told = answer(line)
         if told == "5":
             out.append("5")
             continue

@@ -29,6 +29,8 @@ CONTAMINANTS = [
 DESCRIPTIONS = CONTAMINANTS + ["DRY", "NR"]
 COVERAGES = ["NR", "25", "50", "75", "100"]
 LEAST_DEPTH = {"STANDING WATER": 4, "SLUSH": 3, "WET SNOW": 3, "DRY SNOW": 3}
+# A longer line is no row, at the desk and for rowed.
+LONG_LINE = 4096
 MONTH_DAYS = [31, 29, 31, 30, 31, 30, 31, 31, 30, 31, 30, 31]
 RUNWAYS = {"%02d%s" % (n, side) for n in range(1, 19) for side in ("", "L", "C", "R")}
 WIDTHS = {"%02d" % n for n in range(1, 100)}
@@ -112,7 +114,7 @@ def agrees(code, _coverage, depth, description):
 
 
 def answer(line):
-    row = parts(line)
+    row = parts(line) if len(line) <= LONG_LINE else None
     if row is None:
         return "5"
     time, runway, codes, coverages, depths, descriptions, width = row
@@ -245,8 +247,11 @@ NR/6/6 DRY/DRY/DRY
 6/6/6 DRY/DRY/DRY 30)
 6/6/6 DRY/DRY/DRY.""".replace("\\t", "\t").split("\n")
 
-# The longest line of a message.
-LONG_LINE = 4096
+
+def long_row(size):
+    """A row of so many bytes."""
+    head, tail = "01120640 07R 6/6/6 DRY/DRY/DRY SNOW ON", "TOP OF ICE 45"
+    return head + " " * (size - len(head) - len(tail)) + tail
 
 
 def edges():
@@ -257,10 +262,11 @@ def edges():
     plain += ["01120640 07R " + g for g in GROUPS]
     plain += ["01120640  07R   6/6/6  DRY/DRY/DRY", " " + GOOD, GOOD + " ", "\t" + GOOD, GOOD + "\t", " ", ")", "\x00", "\xff"]
     plain += ["01120640 07 L 6/6/6 DRY/DRY/DRY", "0112 0640 07 6/6/6 DRY/DRY/DRY", "01120640", "01120640 07", "0112064007 6/6/6 DRY/DRY/DRY"]
-    head, tail = "01120640 07R 6/6/6 DRY/DRY/DRY SNOW ON", "TOP OF ICE 45"
-    plain += [head + " " * (LONG_LINE - len(head) - len(tail)) + tail]
+    # the last is longer than a program reads at once
+    plain += [long_row(n) for n in (LONG_LINE, LONG_LINE + 1, 70000)]
     ended = [(line, "\n") for line in plain]
     ended += [("", "\n"), ("", "\r\n"), ("\r", "\r\n"), (GOOD, "\r\n"), (GOOD, "\r\r\n"), (GOOD, "\r" + GOOD + "\n"), ("\r" + GOOD, "\n")]
+    ended += [(long_row(LONG_LINE), "\r\n"), (long_row(LONG_LINE + 1), "\r\n")]
     return "".join(line + end for line, end in ended)
 
 

@@ -564,7 +564,8 @@ pub fn put_any_row(rest: &mut [u8], row: Row) -> usize
     put_width(rest, at, row.width)
 }
 
-const LONGEST_ROW: usize = 147;
+// No row has a longer text.
+pub const LONGEST_ROW: usize = 147;
 
 // How many bytes the row's text has.
 fn row_size(row: Row) -> usize

@@ -1,15 +1,30 @@
 // Reads lines from standard input and shows what the row code makes of each: the refusal, or 0, how many thirds disagree with Table 1, and
-// the row's own text. compare/rows.py says what that has to be.
+// the row's own text. compare/rows.py says what that has to be. Lines may arrive in pieces of any size.
 use libc::STDIN_FILENO;
 use libc::STDOUT_FILENO;
+use row::LONGEST_ROW;
 use row::Row;
 use row::disagreeing;
 use row::read_row;
 use row::write_row;
 use text::first_line;
 
-fn print(text: &[u8]) {
-    io::write_all(STDOUT_FILENO, text);
+// A line over this is no row, as at the desk.
+const LONGEST: usize = 4096;
+
+// What is kept of a line until its end comes: so much that a line over the longest is still over it without the CR that ends it.
+const KEPT: usize = 4098;
+
+const ROOM: usize = 8192;
+
+// How many bytes are done with, or how many wait, and whether more can be written.
+struct Shown {
+    count: usize,
+    goes_on: bool,
+}
+
+fn print(text: &[u8]) -> bool {
+    io::write_all(STDOUT_FILENO, text)
 }
 
 fn print_digit(n: u8) {
@@ -23,9 +38,6 @@ fn print_first(text: &[u8], n: usize) {
         print(&text[0..n]);
     }
 }
-
-// No row has a longer text.
-const LONGEST_ROW: usize = 147;
 
 fn print_row(row: Row) {
     let mut text = [0; LONGEST_ROW];
@@ -41,46 +53,135 @@ fn print_taken(row: Row) {
     print_row(row);
 }
 
-fn show(line: &[u8]) {
+// Answers whether it could be written.
+fn show(line: &[u8]) -> bool {
     let r = read_row(line);
     print_digit(r.refusal);
     if r.refusal == 0 {
         print_taken(r.row);
     }
-    print(b"\n");
+    print(b"\n")
 }
 
-// The line of the first `n` bytes, where there are so many.
-fn show_first(m: &[u8], n: usize) {
+// The first `n` bytes as a line, where there are so many.
+fn show_first(m: &[u8], n: usize) -> bool {
+    if LONGEST < n {
+        return print(b"5\n");
+    }
     if n <= m.len() {
-        show(&m[0..n]);
+        return show(&m[0..n]);
+    }
+    true
+}
+
+// Shows every whole line of what waits.
+fn show_lines(m: &[u8]) -> Shown {
+    let mut at: usize = 0;
+    let mut goes_on = true;
+    while at < m.len() {
+        let rest = &m[at..];
+        let line = first_line(rest);
+        let next = line.next;
+        // a line that has no end yet
+        if next <= line.size {
+            break;
+        }
+        if m.len() - at < next {
+            break;
+        }
+        goes_on = show_first(rest, line.size);
+        at += next;
+    }
+    Shown { count: at, goes_on }
+}
+
+// Moves what waits from `at` on to the front.
+fn move_down(held: &mut [u8], at: usize, n: usize) {
+    let mut i = 0;
+    while i < n {
+        if held.len() <= i {
+            return;
+        }
+        if held.len() - i <= at {
+            return;
+        }
+        let b = held[i + at];
+        held[i] = b;
+        i += 1;
     }
 }
 
-// Shows the first line of what is left and answers where the next one starts.
-fn show_line(rest: &[u8]) -> usize {
-    let line = first_line(rest);
-    show_first(rest, line.size);
-    line.next
+// Of the first `n` bytes those before `at` are shown: keeps the others and answers how many wait. A line over what is kept loses the bytes
+// behind it, and is over the longest all the same.
+fn keep(held: &mut [u8], at: usize, n: usize) -> usize {
+    if n < at {
+        return 0;
+    }
+    let left = n - at;
+    let kept = if left < KEPT { left } else { KEPT };
+    move_down(held, at, kept);
+    kept
 }
 
-// A step of nothing or past the end stops the loop; first_line makes neither.
-fn show_lines(m: &[u8]) {
-    let mut at = 0;
-    while at < m.len() {
-        let step = show_line(&m[at..]);
-        if step == 0 {
-            break;
+// What stands in the buffer's first `n` bytes, line by line; answers how many of them wait for more.
+fn show_held(held: &mut [u8], n: usize) -> Shown {
+    if held.len() < n {
+        return Shown {
+            count: 0,
+            goes_on: false,
+        };
+    }
+    let shown = show_lines(&held[0..n]);
+    let count = keep(held, shown.count, n);
+    Shown {
+        count,
+        goes_on: shown.goes_on,
+    }
+}
+
+// The last line may lack its end.
+fn show_last(held: &[u8], n: usize) {
+    if 0 < n {
+        show_first(held, n);
+    }
+}
+
+// One reading more behind the `n` bytes that wait: how many came, none at the end of the input.
+fn read_more(held: &mut [u8], n: usize) -> usize {
+    if held.len() <= n {
+        return 0;
+    }
+    let part = &mut held[n..];
+    let got = libc::read(STDIN_FILENO, part);
+    io::count(got, part)
+}
+
+// A proved loop has to end, and nothing says that the input does: it counts down from a number that no run uses up.
+fn run(held: &mut [u8]) {
+    let mut count: usize = 0;
+    let mut turns = u64::MAX;
+    while 0 < turns {
+        turns -= 1;
+        let got = read_more(held, count);
+        if got == 0 {
+            show_last(held, count);
+            return;
         }
-        if m.len() - at < step {
-            break;
+        if held.len() - count < got {
+            return;
         }
-        at += step;
+        let shown = show_held(held, count + got);
+        count = shown.count;
+        if !shown.goes_on {
+            return;
+        }
+        if held.len() < count {
+            return;
+        }
     }
 }
 
 fn main() {
-    let mut input = io::large_buffer();
-    let n = io::read_full(STDIN_FILENO, &mut input);
-    show_lines(&input[..n]);
+    let mut held = [0; ROOM];
+    run(&mut held);
 }

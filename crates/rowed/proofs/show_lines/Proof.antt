@@ -1,32 +1,35 @@
+use borrow.Author.Needs.{needs}
 use Prim.Native.Nat.{_≤_, _-_}
 use lib.ListN.{length}
-use borrow.Author.Needs.{needs}
 use Rattle.rowed.proofs.show_lines.Statement.{statement}
 use Rattle.rowed.proofs.show_lines.Tie as tie
 
 abbrev Inv-loop : tie.InvT-loop
-Inv-loop m at₀ at = at ≤ length m
+Inv-loop m at₀ goes-on₀ at goes-on = at ≤ length m
 
 abbrev μ-loop : tie.MeasureT-loop
-μ-loop m at₀ at = length m - at
+μ-loop m at₀ goes-on₀ at goes-on = length m - at
 
 loop-holds : tie.Need-loop-holds Inv-loop μ-loop
 loop-holds c = search needs
 
-sub-show-line : tie.Need-sub-show-line Inv-loop μ-loop
-sub-show-line c = search needs
+sub-rest : tie.Need-sub-rest Inv-loop μ-loop
+sub-rest c = search needs
 
-part-show-line-start : tie.Need-part-show-line-start Inv-loop μ-loop
-part-show-line-start c = search needs
+part-rest-start : tie.Need-part-rest-start Inv-loop μ-loop
+part-rest-start c = search needs
 
-part-show-line-end : tie.Need-part-show-line-end Inv-loop μ-loop
-part-show-line-end c = search needs
+part-rest-end : tie.Need-part-rest-end Inv-loop μ-loop
+part-rest-end c = search needs
 
-show-line-requires : tie.Need-show-line-requires Inv-loop μ-loop
-show-line-requires c κs = search needs
+first-line-requires : tie.Need-first-line-requires Inv-loop μ-loop
+first-line-requires c κs = search needs
 
 sub-if2 : tie.Need-sub-if2 Inv-loop μ-loop
 sub-if2 c = search needs
+
+show-first-requires : tie.Need-show-first-requires Inv-loop μ-loop
+show-first-requires c κs = search needs
 
 add-at : tie.Need-add-at Inv-loop μ-loop
 add-at c = search needs
@@ -53,11 +56,12 @@ show-lines-spec =
     Inv-loop
     μ-loop
     loop-holds
-    sub-show-line
-    part-show-line-start
-    part-show-line-end
-    show-line-requires
+    sub-rest
+    part-rest-start
+    part-rest-end
+    first-line-requires
     sub-if2
+    show-first-requires
     add-at
     loop-less
     loop-again
