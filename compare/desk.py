@@ -9,6 +9,7 @@
 The model keeps the reports and works out what each runway shows from all of them, where the program keeps only what is shown.
 """
 import random
+import re
 import subprocess
 import sys
 
@@ -56,6 +57,11 @@ def answers(message):
     return "\n".join(out) + "\n"
 
 
+def behind_runway(row):
+    """A row without its first two groups, time and runway, from the space behind them on."""
+    return re.sub("^[^ ]+ +[^ ]+", "", row)
+
+
 def seeded_input(seed):
     rng = random.Random(seed)
     runways = sorted(rng.sample(sorted(RUNWAYS), rng.randint(1, 8)), key=order)
@@ -67,7 +73,7 @@ def seeded_input(seed):
         row = seeded_row(rng)
         if rng.random() < 0.8:
             time = "0112%02d%02d" % (rng.randint(0, 2), rng.randint(0, 9))
-            row = " ".join([time, rng.choice(runways)]) + row[row.index(" ", row.index(" ") + 1 + len(row[9:]) - len(row[9:].lstrip(" "))) :]
+            row = " ".join([time, rng.choice(runways)]) + behind_runway(row)
         kind = rng.random()
         if kind < 0.2:
             row = damaged(rng, row)
@@ -127,7 +133,10 @@ def run(program, count):
         except BrokenPipeError:
             pass
         told = child.stdout.read().decode("latin-1")
-        child.wait()
+        # A program that stops reading early, as after a refused opening, ends well all the same.
+        status = child.wait()
+        if status != 0:
+            sys.exit("seed %d: status %d" % (seed, status))
         if told != answers(message):
             sys.exit("seed %d: differs\n%s\n--- expected\n%s" % (seed, told, answers(message)))
     print("%d inputs, no difference" % count)

@@ -6,12 +6,13 @@
 
 An edit changes one numeral by one, one comparison, one truth value, one sign, one letter of a text or one number of a list of bytes.
 
-The first form tries COUNT random ones. Run it in a copy of the tree that is proved (`rt check`), since it edits files in place and
-puts them back. An edit is tried on its crate, and, where that still proves, on the crates above it in the order of crates.txt.
+The first form tries COUNT random ones, at most one at each place. Run it in a copy of the tree, since it edits files in place and
+puts them back. The tree has to prove as it stands, else every edit would seem to be refused: `rt check` is run first.
+An edit is tried on its crate, and, where that still proves, on the crates above it in the order of crates.txt.
 
 The second form tries every edit of every definition, a numeral both ways and a text letter by letter, against the laws and the
 tables alone: it writes the tree without its functions and their proofs to DIR, which must be new, checks that, and edits it there. So it is told
-whether a law or a table refuses an edit, whatever the code would say. PART/PARTS tries a share of them, for several at a time.
+whether a law or a table refuses an edit, whatever the code would say. PART/PARTS, as 1/2 and 2/2, tries a share of them, for several at a time.
 
 A row of a table is printed for each: the place, the edit, and where it was refused with the first error; an edit that no crate
 refuses is called KEPT, and the status is then 1.
@@ -25,7 +26,7 @@ import sys
 
 ROOT = pathlib.Path(__file__).resolve().parent.parent
 # What stands apart from the definitions in specs/: laws, and what the checker evaluates.
-APART = {"Laws", "Theorems", "Tables", "Edges", "Pins", "Examples", "Lib", "Shown"}
+APART = {"Laws", "Theorems", "Tables", "Edges", "Pins", "Examples", "Lib"}
 SWAPS = {"eqb": "ltb", "leb": "ltb", "ltb": "leb", "true": "false", "false": "true", "<": "<=", "<=": "<", "==": "!=",
          "!=": "==", "+": "-"}
 IN_DEFINITIONS = re.compile(r'"(?P<text>[^"]*)"|(?<![\w₀-₉.])(?<!Type )(?P<number>\d+)(?![\w₀-₉])(?! =)|(?<![\w.-])(?P<word>eqb|leb|ltb|true|false)(?![\w-])')
@@ -129,20 +130,20 @@ def tried(root, crate, path, number, match, new):
     return name is not None
 
 
+def must_prove(root, what):
+    """Stops where a tree does not prove before any edit."""
+    if subprocess.run(["rt", "check"], cwd=root, stdout=subprocess.DEVNULL).returncode != 0:
+        sys.exit(f"{what} does not prove as it stands")
+
+
 def at_random(kind, count, seed):
     """COUNT random edits at places that differ; whether all were refused."""
     rng = random.Random(seed)
-    places = candidates(ROOT, kind)
+    places = [place for place in candidates(ROOT, kind) if changes(place[3])]
     print(f"{len(places)} places", file=sys.stderr)
-    seen = set()
-    refused = True
-    while len(seen) < count:
-        at = rng.randrange(len(places))
-        news = changes(places[at][3])
-        if at not in seen and news:
-            seen.add(at)
-            refused &= tried(ROOT, *places[at], rng.choice(news))
-    return refused
+    must_prove(ROOT, "the tree")
+    drawn = rng.sample(places, min(count, len(places)))
+    return all([tried(ROOT, *place, rng.choice(changes(place[3]))) for place in drawn])
 
 
 def without_functions(code):
@@ -171,8 +172,7 @@ def bare_tree(root):
             copy.write_text(without_functions(path.read_text()))
     listed = [line for line in (ROOT / "crates.txt").read_text().splitlines() if (root / "crates" / line.split(":")[0]).is_dir()]
     (root / "crates.txt").write_text("\n".join(listed) + "\n")
-    if subprocess.run(["rt", "check"], cwd=root, stdout=subprocess.DEVNULL).returncode != 0:
-        sys.exit("the definitions, laws and tables do not check by themselves")
+    must_prove(root, "the tree of definitions, laws and tables alone")
 
 
 def every(root, part, parts):
@@ -180,17 +180,25 @@ def every(root, part, parts):
     bare_tree(root)
     edits = [(*place, new) for place in candidates(root, "definitions") for new in changes(place[3])]
     print(f"{len(edits)} edits", file=sys.stderr)
-    return all([tried(root, *edit) for edit in edits[part::parts]])
+    return all([tried(root, *edit) for edit in edits[part - 1::parts]])
+
+
+def share_of(text):
+    """PART and PARTS of a share."""
+    said = re.fullmatch(r"(\d+)/(\d+)", text)
+    part, parts = map(int, said.groups()) if said else (0, 0)
+    if not 1 <= part <= parts:
+        sys.exit(__doc__)
+    return part, parts
 
 
 def main():
     match sys.argv[1:]:
         case ["every", directory]:
-            refused = every(pathlib.Path(directory), 0, 1)
+            refused = every(pathlib.Path(directory), 1, 1)
         case ["every", directory, share]:
-            part, parts = share.split("/")
-            refused = every(pathlib.Path(directory), int(part) - 1, int(parts))
-        case [kind, count, seed]:
+            refused = every(pathlib.Path(directory), *share_of(share))
+        case ["definitions" | "code" as kind, count, seed] if count.isdecimal() and seed.isdecimal():
             refused = at_random(kind, int(count), int(seed))
         case _:
             sys.exit(__doc__)

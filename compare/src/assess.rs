@@ -68,7 +68,7 @@ fn table(description: u16, depth: u16) -> &'static [u16] {
     }
 }
 
-fn agrees(third: &Third) -> bool {
+pub fn agrees(third: &Third) -> bool {
     table(third.description, third.depth).contains(&third.code)
 }
 

@@ -5,6 +5,7 @@
 #![allow(clippy::new_without_default, clippy::should_implement_trait)]
 
 mod assess;
+pub mod assessed;
 pub mod desk;
 pub mod edges;
 pub mod generate;

@@ -2,12 +2,13 @@
 use std::io::{self, Read, Write};
 use std::process::ExitCode;
 
-use compare::{desk, edges, generate, reader, selfcheck};
+use compare::{assessed, desk, edges, generate, reader, selfcheck};
 
 const USAGE: &str = "\
 compare list < message           what the lister prints
 compare desk < input             what the desk program prints
 compare rows < lines             what the program rowed prints
+compare assessed                 what the program assessed prints
 compare desk-input SEED          writes a seeded input of the desk program
 compare edges-input              writes the stored messages, framed
 compare edges-answers < framed   what is to be answered for them
@@ -26,6 +27,7 @@ fn answer(words: &[&str]) -> io::Result<ExitCode> {
         ["list"] => reader::listing(&input()?),
         ["desk"] => desk::desk(&input()?),
         ["rows"] => selfcheck::rows(&input()?),
+        ["assessed"] => assessed::output(),
         ["desk-input", seed] => generate::desk_input(&mut generate::Rng::new(number(seed)?)),
         ["edges-input"] => edges::framed(&edges::messages()),
         ["edges-answers"] => {
