@@ -156,6 +156,7 @@ fn accepted(front: Front, rows: Rows, remarks: RemarksRead) -> Reading
     }
 }
 
+// The longest message that is read; the desk takes no longer line.
 pub const LONGEST: usize = 4096;
 
 const TOO_LONG: u8 = 1;

@@ -86,6 +86,7 @@ fn show_lines(m: &[u8]) -> Shown {
         if next <= line.size {
             break;
         }
+        // first_line never goes past the end
         if m.len() - at < next {
             break;
         }
@@ -156,7 +157,8 @@ fn read_more(held: &mut [u8], n: usize) -> usize {
     io::count(got, part)
 }
 
-// A proved loop has to end, and nothing says that the input does: it counts down from a number that no run uses up.
+// A proved loop has to end, and nothing says that the input does: it counts down from a number that no run uses up. Its two tests of the
+// buffer's length are never met; they stand for promises that the functions above do not make.
 fn run(held: &mut [u8]) {
     let mut count: usize = 0;
     let mut turns = u64::MAX;
