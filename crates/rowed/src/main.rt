@@ -8,17 +8,18 @@ use row::disagreeing;
 use row::read_row;
 use row::write_row;
 use text::first_line;
+use text::put;
 
 // A line over this is no row, as at the desk.
 const LONGEST: usize = 4096;
 
-// What is kept of a line until its end comes: so much that a line over the longest is still over it without the CR that ends it.
-const KEPT: usize = 4098;
+// Room for the longest line and the CR LF that ends it.
+const ROOM: usize = 4098;
 
-const ROOM: usize = 8192;
+const PIECE: usize = 8192;
 
-// How many bytes are done with, or how many wait, and whether more can be written.
-struct Shown {
+// How many bytes of a line wait for its end, and whether more can be written.
+struct Waiting {
     count: usize,
     goes_on: bool,
 }
@@ -74,116 +75,66 @@ fn show_first(m: &[u8], n: usize) -> bool {
     true
 }
 
-// Shows every whole line of what waits.
-fn show_lines(m: &[u8]) -> Shown {
-    let mut at: usize = 0;
+// The line whose bytes and end are the first `n`; one that has found no room is over the longest.
+fn show_line(line: &[u8], n: usize) -> bool {
+    if line.len() < n {
+        return print(b"5\n");
+    }
+    let first = first_line(&line[..n]);
+    show_first(line, first.size)
+}
+
+// Takes a piece behind the bytes that wait, and shows each line that ends in it.
+fn take_piece(line: &mut [u8], waiting: usize, piece: &[u8]) -> Waiting {
+    let mut count = waiting;
     let mut goes_on = true;
-    while at < m.len() {
-        let rest = &m[at..];
-        let line = first_line(rest);
-        let next = line.next;
-        // a line that has no end yet
-        if next <= line.size {
+    let mut at: usize = 0;
+    while at < piece.len() {
+        let rest = &piece[at..];
+        let first = first_line(rest);
+        let next = first.next;
+        // first_line steps on, and not past the end
+        if next == 0 {
             break;
         }
-        // first_line never goes past the end
-        if m.len() - at < next {
+        if rest.len() < next {
             break;
         }
-        goes_on = show_first(rest, line.size);
+        count = put(line, count, &rest[..next]);
+        if first.size < next {
+            goes_on = show_line(line, count);
+            count = 0;
+        }
         at += next;
     }
-    Shown { count: at, goes_on }
-}
-
-// Moves what waits from `at` on to the front.
-fn move_down(held: &mut [u8], at: usize, n: usize) {
-    let mut i = 0;
-    while i < n {
-        if held.len() <= i {
-            return;
-        }
-        if held.len() - i <= at {
-            return;
-        }
-        let b = held[i + at];
-        held[i] = b;
-        i += 1;
-    }
-}
-
-// Of the first `n` bytes those before `at` are shown: keeps the others and answers how many wait. A line over what is kept loses the bytes
-// behind it, and is over the longest all the same.
-fn keep(held: &mut [u8], at: usize, n: usize) -> usize {
-    if n < at {
-        return 0;
-    }
-    let left = n - at;
-    let kept = if left < KEPT { left } else { KEPT };
-    move_down(held, at, kept);
-    kept
-}
-
-// What stands in the buffer's first `n` bytes, line by line; answers how many of them wait for more.
-fn show_held(held: &mut [u8], n: usize) -> Shown {
-    if held.len() < n {
-        return Shown {
-            count: 0,
-            goes_on: false,
-        };
-    }
-    let shown = show_lines(&held[0..n]);
-    let count = keep(held, shown.count, n);
-    Shown {
-        count,
-        goes_on: shown.goes_on,
-    }
+    Waiting { count, goes_on }
 }
 
 // The last line may lack its end.
-fn show_last(held: &[u8], n: usize) {
+fn show_last(line: &[u8], n: usize) {
     if 0 < n {
-        show_first(held, n);
+        show_line(line, n);
     }
 }
 
-// One reading more behind the `n` bytes that wait: how many came, none at the end of the input.
-fn read_more(held: &mut [u8], n: usize) -> usize {
-    if held.len() <= n {
-        return 0;
-    }
-    let part = &mut held[n..];
-    let got = libc::read(STDIN_FILENO, part);
-    io::count(got, part)
-}
-
-// A proved loop has to end, and nothing says that the input does: it counts down from a number that no run uses up. Its two tests of the
-// buffer's length are never met; they stand for promises that the functions above do not make.
-fn run(held: &mut [u8]) {
+// A proved loop has to end, and nothing says that the input does: it counts down from a number that no run uses up.
+fn main() {
+    let mut line = [0; ROOM];
+    let mut piece = [0; PIECE];
     let mut count: usize = 0;
     let mut turns = u64::MAX;
     while 0 < turns {
         turns -= 1;
-        let got = read_more(held, count);
-        if got == 0 {
-            show_last(held, count);
+        let got = libc::read(STDIN_FILENO, &mut piece);
+        let n = io::count(got, &piece);
+        if n == 0 {
+            show_last(&line, count);
             return;
         }
-        if held.len() - count < got {
+        let taken = take_piece(&mut line, count, &piece[..n]);
+        if !taken.goes_on {
             return;
         }
-        let shown = show_held(held, count + got);
-        count = shown.count;
-        if !shown.goes_on {
-            return;
-        }
-        if held.len() < count {
-            return;
-        }
+        count = taken.count;
     }
-}
-
-fn main() {
-    let mut held = [0; ROOM];
-    run(&mut held);
 }
