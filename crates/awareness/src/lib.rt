@@ -26,19 +26,19 @@ use items::may_follow;
 use items::numbers_fit;
 use items::valid_item;
 use runway::read_runway;
-use text::CAPITALS_AND_DIGITS;
+use scan::CAPITALS_AND_DIGITS;
 use text::Found;
-use text::LETTERS;
+use scan::LETTERS;
 use text::NO_SPAN;
 use text::NONE;
 use text::Span;
-use text::counted;
-use text::digits;
+use scan::counted;
+use scan::digits;
 use text::place;
-use text::put;
-use text::run;
-use text::spaces;
-use text::word;
+use fill::put;
+use scan::run;
+use scan::spaces;
+use scan::word;
 
 // An item at a place of a text, and the place behind it.
 struct ItemFound {

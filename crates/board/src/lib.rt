@@ -39,7 +39,7 @@ use runway::RunwayFound;
 use runway::is_later;
 use runway::read_runway;
 use runway::valid_runway;
-use text::put;
+use fill::put;
 
 pub struct Runway {
     pub number: u8,

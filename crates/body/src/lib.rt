@@ -23,8 +23,8 @@ use runway::is_later;
 use text::first_line;
 use text::is_closed;
 use text::place;
-use text::put;
-use text::told_behind;
+use fill::put;
+use fill::told_behind;
 
 // 1 to 8 rows, zeros past the count.
 pub struct Rows {

@@ -15,9 +15,9 @@ use board::put_shown;
 use board::report_line;
 use text::first_line;
 use text::place;
-use text::put;
-use text::put_number;
-use text::told_behind;
+use fill::put;
+use fill::put_number;
+use fill::told_behind;
 
 // The report that a line is, and where the next line starts.
 struct Taken {

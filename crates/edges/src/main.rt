@@ -9,8 +9,8 @@ use notice::Record;
 use notice::read;
 use notice::same;
 use notice::write;
-use text::digits;
-use text::put_digits;
+use scan::digits;
+use fill::put_digits;
 
 const ROOM: usize = 400000;
 

@@ -22,8 +22,8 @@ use heading::read_heading;
 use heading::read_serial;
 use text::first_line;
 use text::place;
-use text::put;
-use text::told_behind;
+use fill::put;
+use fill::told_behind;
 
 // ---- Reading
 

@@ -19,16 +19,16 @@ ghost use Rattle.heading.specs.Answers.{Designated, listAnswer, addresse
 use runway::real_clock;
 use runway::real_time;
 use text::Found;
-use text::LETTERS;
+use scan::LETTERS;
 use text::NO_SPAN;
 use text::NONE;
 use text::Span;
-use text::counted;
-use text::digits;
-use text::put;
-use text::put_digits;
-use text::word;
-use text::zeros_from;
+use scan::counted;
+use scan::digits;
+use fill::put;
+use fill::put_digits;
+use scan::word;
+use scan::zeros_from;
 
 // Line 1. Zeros stand past the last address.
 pub struct Addresses {

@@ -13,14 +13,14 @@ ghost use Rattle.items.specs.Awareness.{sameRunway, otherApron, mayRepea
 ghost use Rattle.items.specs.Language.{validLanguage, validLanguageArray};
 ghost use Rattle.items.specs.Held.{SlotEnd};
 use runway::valid_runway;
-use text::CAPITALS_AND_DIGITS;
-use text::LETTERS;
-use text::all_plain;
-use text::counted;
-use text::put;
-use text::run;
-use text::same_bytes;
-use text::zeros_from;
+use scan::CAPITALS_AND_DIGITS;
+use scan::LETTERS;
+use scan::all_plain;
+use scan::counted;
+use fill::put;
+use scan::run;
+use scan::same_bytes;
+use scan::zeros_from;
 
 // An awareness item, zeros in every field that its letter does not use.
 pub struct Item {

@@ -11,9 +11,9 @@ use notice::put_notice;
 use notice::read;
 use row::disagreements;
 use text::place;
-use text::put;
-use text::put_number;
-use text::told_behind;
+use fill::put;
+use fill::put_number;
+use fill::told_behind;
 
 // Those of all rows together.
 fn disagreeing_thirds(r: Rows) -> u8

@@ -47,8 +47,8 @@ use sameness::same_language;
 use sameness::same_rows;
 use sameness::same_title;
 use text::place;
-use text::put;
-use text::same_bytes;
+use fill::put;
+use scan::same_bytes;
 
 // What a message says, part by part; the heading time is the latest row time and is not stored.
 pub struct Record {

@@ -22,9 +22,9 @@ use items::valid_language_bytes;
 use text::first_line;
 use text::is_closed;
 use text::place;
-use text::put;
-use text::told_behind;
-use text::zeros_from;
+use fill::put;
+use fill::told_behind;
+use scan::zeros_from;
 use wording::put_awareness;
 
 pub fn holds_items(i: Items) -> bool

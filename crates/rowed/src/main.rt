@@ -8,7 +8,7 @@ use row::disagreeing;
 use row::read_row;
 use row::write_row;
 use text::first_line;
-use text::put;
+use fill::put;
 
 // A line over this is no row, as at the desk.
 const LONGEST: usize = 4096;

@@ -13,7 +13,7 @@ use items::Item;
 use items::MOST_ITEMS;
 use row::Row;
 use surface::Third;
-use text::same_bytes;
+use scan::same_bytes;
 
 // ---- Lines 1 to 3
 

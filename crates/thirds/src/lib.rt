@@ -11,11 +11,11 @@ ghost use Rattle.thirds.specs.Held.{HeldThree, Tried, Kept, jointText};
 use surface::description;
 use text::Found;
 use text::NONE;
-use text::digits;
+use scan::digits;
 use text::place;
-use text::put;
-use text::put_digits;
-use text::word;
+use fill::put;
+use fill::put_digits;
+use scan::word;
 
 mod texts;
 

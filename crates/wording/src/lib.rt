@@ -15,12 +15,12 @@ use items::Item;
 use items::MOST_ITEMS;
 use items::TAXIWAY_SIZE;
 use runway::put_runway;
-use text::CAPITALS_AND_DIGITS;
-use text::counted;
-use text::put;
-use text::put_digits;
-use text::run;
-use text::told_behind;
+use scan::CAPITALS_AND_DIGITS;
+use scan::counted;
+use fill::put;
+use fill::put_digits;
+use scan::run;
+use fill::told_behind;
 
 // ---- Writing an item
 

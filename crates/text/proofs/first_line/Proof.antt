@@ -1,6 +1,6 @@
 use native.Mathlib.Omega.{arith}
 use mathlib.Core.Logic.{⊎-elim}
-use Rattle.text.proofs.Steps.{line-unfed, line-returned, line-fed}
+use Rattle.text.proofs.Lines.{line-unfed, line-returned, line-fed}
 use borrow.Author.Needs.{needs}
 use Rattle.text.proofs.first_line.Statement.{statement}
 use Rattle.text.proofs.first_line.Tie as tie

@@ -1,5 +1,5 @@
 use mathlib.Core.Path.{sym}
-use Rattle.text.proofs.Steps.{closed-last, closed-none}
+use Rattle.text.proofs.Lines.{closed-last, closed-none}
 use borrow.Author.Needs.{needs}
 use Rattle.text.proofs.is_closed.Statement.{statement}
 use Rattle.text.proofs.is_closed.Tie as tie

@@ -9,7 +9,7 @@ use borrow.Author.Tests.{eq-eqb, ne-eqb}
 use Rattle.text.specs.Choice.{_and_, all}
 use Rattle.text.specs.Held.{isUnfed}
 use Rattle.text.specs.Laws.Base.{and-none, and-true}
-use Rattle.text.proofs.Steps.{block-more, block-out, block-in}
+use Rattle.text.specs.Laws.Passed.{block-more, block-out, block-in}
 use borrow.Author.Needs.{needs}
 use Rattle.text.proofs.is_unfed.Statement.{statement}
 use Rattle.text.proofs.is_unfed.Tie as tie
