@@ -17,9 +17,10 @@ use Rattle.text.specs.Arrays.{pad}
 use Rattle.text.specs.Laws.Base.{true-false}
 use Rattle.text.specs.Laws.Put.{canonical-append}
 use Rattle.row.specs.declared.Row.{Row}
-use Rattle.row.specs.declared.RowRead.{RowRead}
-use Rattle.row.specs.Row.{validRow, rowPieces}
-use Rattle.row.specs.Reading.{wholeRow, refusedRow, answer as rowAnswer}
+use Rattle.rowtext.specs.declared.RowRead.{RowRead}
+use Rattle.row.specs.Row.{validRow}
+use Rattle.rowtext.specs.Text.{rowPieces}
+use Rattle.rowtext.specs.Reading.{wholeRow, refusedRow, answer as rowAnswer}
 use Rattle.heading.specs.Letters.{isLetters}
 use Rattle.heading.specs.Heading.{aerodromeSize, readAerodrome}
 use Rattle.heading.specs.Answers.{aerodromeAnswer}

@@ -11,8 +11,9 @@ use Rattle.text.specs.Arrays.{pad}
 use Rattle.text.specs.Held.{isSpace}
 use Rattle.runway.specs.Runway.{readRunway, runwayPieces}
 use Rattle.row.specs.declared.Row.{Row}
-use Rattle.row.specs.Row.{validRow, rowPieces}
-use Rattle.row.specs.Reading.{wholeRow, refusedRow}
+use Rattle.row.specs.Row.{validRow}
+use Rattle.rowtext.specs.Text.{rowPieces}
+use Rattle.rowtext.specs.Reading.{wholeRow, refusedRow}
 use Rattle.heading.specs.Heading.{readAerodrome}
 use Rattle.notice.specs.Reading.{longest}
 use Rattle.board.specs.declared.Runway.{Runway}

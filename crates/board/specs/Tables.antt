@@ -17,8 +17,9 @@ use Rattle.surface.specs.Descriptions.{isContaminant, isDeep, notReported, dry}
 use Rattle.surface.specs.Third.{third, isBlankThird, isCoverage, validCoverage, leastDepth, isReported, validDepth, validThird}
 use Rattle.thirds.specs.Groups.{measurePieces, readMeasure, readCoverage, readDescription, thirdPieces, readThird, readGroup}
 use Rattle.row.specs.declared.Row.{Row}
-use Rattle.row.specs.Row.{blankRow, threeThat, isBlankRow, validRow, isBare, isSix, isDry, isShort, middlePieces, widthPieces, rowPieces}
-use Rattle.row.specs.Reading.{readFull, readShort, readWidth, readRow}
+use Rattle.row.specs.Row.{blankRow, threeThat, isBlankRow, validRow, isBare, isSix, isDry, isShort}
+use Rattle.rowtext.specs.Text.{middlePieces, widthPieces, rowPieces}
+use Rattle.rowtext.specs.Reading.{readFull, readShort, readWidth, readRow}
 use Rattle.heading.specs.Letters.{isLetters}
 use Rattle.heading.specs.Heading.{readAerodrome}
 use Rattle.body.specs.declared.Items.{Items}

@@ -12,7 +12,7 @@ use Rattle.text.specs.Piece.{canonical}
 use Rattle.text.specs.Lines.{under}
 use Rattle.text.specs.Laws.Ended.{under-append}
 use Rattle.row.specs.declared.Row.{Row}
-use Rattle.row.specs.Row.{rowPieces}
+use Rattle.rowtext.specs.Text.{rowPieces}
 use Rattle.body.specs.Rows.{sameRunway, isAmong, newRunways, latestOf, latestFrom, latest}
 
 -- both tests, the first of them decided

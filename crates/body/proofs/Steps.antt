@@ -19,7 +19,7 @@ use Rattle.text.specs.Laws.Arrays.{pad-length, pad-more}
 use Rattle.text.specs.Laws.Lines.{first-lines, line-inside, line-place, line-lines}
 use Rattle.row.specs.declared.Row.{Row}
 use Rattle.row.specs.Row.{blankRow}
-use Rattle.row.specs.Reading.{wholeRow, answer}
+use Rattle.rowtext.specs.Reading.{wholeRow, answer}
 use Rattle.body.specs.declared.Rows.{Rows}
 use Rattle.body.specs.declared.RowLine.{RowLine}
 use Rattle.text.specs.Out.{Out, refuse, fit, atEnd}

@@ -7,7 +7,7 @@ use lib.Dec.{eqb}
 use lib.ListN.{drop}
 use Rattle.text.specs.Choice.{pick}
 use Rattle.text.specs.Lines.{lines, linesSize, closed, opened}
-use Rattle.row.specs.Reading.{wholeRow, answer}
+use Rattle.rowtext.specs.Reading.{wholeRow, answer}
 use Rattle.body.specs.declared.Rows.{Rows}
 use Rattle.body.specs.declared.RowLine.{RowLine}
 use Rattle.body.specs.declared.RowsRead.{RowsRead}

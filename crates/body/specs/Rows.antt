@@ -10,7 +10,7 @@ use Rattle.text.specs.Arrays.{pad}
 use Rattle.runway.specs.Time.{later}
 use Rattle.row.specs.declared.Row.{Row}
 use Rattle.row.specs.Row.{validRow, blankRow, isBlankRow}
-use Rattle.row.specs.Reading.{wholeRow}
+use Rattle.rowtext.specs.Reading.{wholeRow}
 use Rattle.body.specs.declared.Rows.{Rows}
 use Rattle.text.specs.Out.{Out, refuse, taken, fit, atEnd}
 

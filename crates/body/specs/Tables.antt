@@ -14,7 +14,7 @@ use Rattle.text.specs.Lines.{lines, linesSize, closed, front}
 use Rattle.text.specs.Out.{refuse}
 use Rattle.row.specs.declared.Row.{Row}
 use Rattle.row.specs.Row.{blankRow, threeThat, validRow, isBare, isSix, isDry, isShort}
-use Rattle.row.specs.Reading.{readFull, readShort, readWidth, readRow}
+use Rattle.rowtext.specs.Reading.{readFull, readShort, readWidth, readRow}
 use Rattle.body.specs.Rows.{mostRows, makeRows, more, sameRunway, isAmong, newRunways, latest, readRows}
 use Rattle.body.specs.Rows as Rows
 use Rattle.body.specs.Remarks.{readLanguageLine, readRemarks}

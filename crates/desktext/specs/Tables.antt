@@ -14,8 +14,9 @@ use Rattle.runway.specs.Runway.{validRunway}
 use Rattle.surface.specs.Descriptions.{isContaminant, isDeep}
 use Rattle.surface.specs.Third.{isBlankThird, isCoverage, validCoverage, leastDepth, isReported, validDepth, validThird}
 use Rattle.thirds.specs.Groups.{measurePieces, readMeasure, readCoverage, readDescription, thirdPieces, readThird, readGroup}
-use Rattle.row.specs.Row.{threeThat, isBlankRow, validRow, isBare, isSix, isDry, isShort, middlePieces, widthPieces, rowPieces}
-use Rattle.row.specs.Reading.{readFull, readShort, readWidth, readRow}
+use Rattle.row.specs.Row.{threeThat, isBlankRow, validRow, isBare, isSix, isDry, isShort}
+use Rattle.rowtext.specs.Text.{middlePieces, widthPieces, rowPieces}
+use Rattle.rowtext.specs.Reading.{readFull, readShort, readWidth, readRow}
 use Rattle.heading.specs.Letters.{isLetters}
 use Rattle.heading.specs.Heading.{readAerodrome}
 use Rattle.board.specs.Board.{isBlankRunway, comesBefore, rises, rising, isAerodrome, validList, names, fitsPlace, fitPlaces, validPlaces, validBoard, opening}

@@ -3,7 +3,7 @@ use Prim.Native.Nat.{ℕ}
 use mathlib.Core.List.{List, _∷_, _++_, map}
 use Rattle.text.specs.Piece.{Piece, canonical}
 use Rattle.text.specs.Lines.{ended}
-use Rattle.row.specs.Row.{rowPieces}
+use Rattle.rowtext.specs.Text.{rowPieces}
 use Rattle.heading.specs.Addresses.{addressesPieces}
 use Rattle.heading.specs.Filing.{filingPieces}
 use Rattle.heading.specs.Heading.{headingPieces, serialPieces, aerodromePieces}

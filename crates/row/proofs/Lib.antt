@@ -1,4 +1,1 @@
 pub mod Thirds
-pub mod Steps
-pub mod Groups
-pub mod Writes

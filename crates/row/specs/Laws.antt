@@ -1,3 +1,1 @@
-pub mod Tail
 pub mod Row
-pub mod Sizes

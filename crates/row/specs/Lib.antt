@@ -1,10 +1,5 @@
--- Definitions; what is shown of them, in Theorems, and the laws that it rests on; tables that the checker evaluates.
+-- Definitions; the laws of a row's thirds; tables that the checker evaluates.
 pub mod Row
-pub mod Reading
-pub mod Writing
 pub mod Agreement
-pub mod Filling
 pub mod Laws
-pub mod Theorems
-pub mod Edges
 pub mod Pins

@@ -1,14 +1,9 @@
 -- Tables that the checker evaluates: the rules of a row on both sides of each bound, and the agreement check.
 use Prim.Native.Nat.{ℕ}
-use Prim.Native.String.{String}
 use mathlib.Core.Path.{_≡_, refl}
 use mathlib.Core.List.{List, [], _∷_, map}
 use mathlib.Core.Bool.{true, false}
 use Rattle.text.specs.Choice.{_and_}
-use Rattle.text.specs.Piece.{bytes}
-use Rattle.text.specs.Read.{Got, misfit, got, skip, readText}
-use Rattle.text.specs.Names.{readName}
-use Rattle.text.specs.Numbers.{readDigits}
 use Rattle.runway.specs.Time.{isShortMonth, daysOf, realDay, realClock, realTime}
 use Rattle.runway.specs.Runway.{validRunway}
 use Rattle.surface.specs.Descriptions.{isContaminant, isDeep, notReported, compactedSnow, slush, standingWater, wet, dry}
@@ -16,20 +11,17 @@ use Rattle.surface.specs.Third.{third, blankThird, isBlankThird, isCoverage, va
 use Rattle.surface.specs.Table1.{table1, isShallow, canHold, allows, firstLine, agrees}
 use Rattle.surface.specs.declared.Third.{Third}
 use Rattle.row.specs.Row.{blankRow, threeThat, isBlankRow, validRow, isBare, isSix, isDry, isShort}
-use Rattle.thirds.specs.Groups.{measurePieces, readMeasure, readCoverage, readDescription, readThird, readGroup}
-use Rattle.row.specs.Reading.{readFull, readShort, readWidth, answer}
-use Rattle.row.specs.Filling.{withTime, withCodes, groupCount, fillGroup, fillFrom, judgedRow}
 use Rattle.row.specs.Agreement.{disagrees, disagreements, agreement}
 use Rattle.row.specs.declared.Row.{Row}
 use Rattle.row.specs.declared.Agreement.{Agreement}
 
-abbrev row : ℕ → ℕ → ℕ → List Third → ℕ → Row
+abbrev pub row : ℕ → ℕ → ℕ → List Third → ℕ → Row
 row time number side ts width = record { time = time; number = number; side = side; thirds = ts; width = width }
 
-abbrev each : Third → List Third
+abbrev pub each : Third → List Third
 each t = t ∷ t ∷ t ∷ []
 
-abbrev bare : ℕ → ℕ → Third
+abbrev pub bare : ℕ → ℕ → Third
 bare code description = third code notReported notReported description
 
 pub record Rules : Type 0 where
@@ -68,30 +60,3 @@ pub record Counts : Type 0 where
 pub counts : Counts
 unfolding _and_ isShortMonth daysOf realDay realClock realTime validRunway isContaminant isDeep isCoverage validCoverage leastDepth isReported validDepth validThird threeThat validRow table1 isShallow canHold allows firstLine agrees disagrees disagreements agreement
 counts = record { none = refl; one = refl; two = refl; three = refl; invalid = refl }
-
--- a row as it is filled: after so many groups, what is read, and what is left of the line
-abbrev step : ℕ → Row → String → Got Row
-step g r s = fillGroup g r (bytes s)
-
-abbrev timed : Row
-timed = withTime blankRow 1120640
-
-abbrev sixes : Row
-sixes = withCodes blankRow (6, 6, 6)
-
-abbrev whole : Row
-whole = row 1120640 7 1 (each (bare 6 dry)) 40
-
-pub record Filling : Type 0 where
-  time : step 0 blankRow "01120640 07L" ≡ got timed (bytes " 07L")
-  runway : step 1 timed " 07L 6/6/6" ≡ got (row 1120640 7 1 (each blankThird) 0) (bytes " 6/6/6")
-  codes : step 2 blankRow " 6/6/6 DRY" ≡ got sixes (bytes " DRY")
-  rest : step 3 sixes " DRY/DRY/DRY 40" ≡ got (row 0 0 0 (each (bare 6 dry)) 0) (bytes " 40")
-  width : step 4 blankRow " 40 1" ≡ got (row 0 0 0 (each blankThird) 40) (bytes " 1")
-  all-groups : fillFrom groupCount 0 blankRow (bytes "01120640 07L 6/6/6 DRY/DRY/DRY 40") ≡ got whole []
-  judged-rows : map (λ n. judgedRow n whole) (0 ∷ 1 ∷ 5 ∷ []) ≡ record { refusal = 0; row = whole } ∷ answer misfit ∷ answer misfit ∷ []
-  judged-invalid : judgedRow 0 (row 1120640 19 1 (each (bare 6 dry)) 40) ≡ answer misfit
-
-pub filling : Filling
-unfolding _and_ skip readText readName readDigits measurePieces readMeasure readCoverage readDescription readThird readGroup readFull readShort readWidth isShortMonth daysOf realDay realClock realTime validRunway isContaminant isDeep isCoverage validCoverage leastDepth isReported validDepth validThird threeThat validRow isBare isSix isDry isShort fillGroup fillFrom judgedRow
-filling = record { time = refl; runway = refl; codes = refl; rest = refl; width = refl; all-groups = refl; judged-rows = refl; judged-invalid = refl }

@@ -2,11 +2,11 @@
 // the row's own text. compare/rows.py says what that has to be. Lines may arrive in pieces of any size.
 use libc::STDIN_FILENO;
 use libc::STDOUT_FILENO;
-use row::LONGEST_ROW;
+use rowtext::LONGEST_ROW;
 use row::Row;
 use row::disagreeing;
-use row::read_row;
-use row::write_row;
+use rowtext::read_row;
+use rowtext::write_row;
 use text::first_line;
 use fill::put;
 

@@ -11,9 +11,10 @@ use Rattle.text.specs.Choice.{pick}
 use Rattle.text.specs.Piece.{Typing, canonical, end, _then_}
 use Rattle.text.specs.Read.{Got, misfit, got}
 use Rattle.row.specs.declared.Row.{Row}
-use Rattle.row.specs.Row.{validRow, rowPieces}
-use Rattle.row.specs.Reading.{wholeRow}
-use Rattle.row.specs.Theorems.{Tells, row-sound, row-complete}
+use Rattle.row.specs.Row.{validRow}
+use Rattle.rowtext.specs.Text.{rowPieces}
+use Rattle.rowtext.specs.Reading.{wholeRow}
+use Rattle.rowtext.specs.Theorems.{Tells, row-sound, row-complete}
 use Rattle.board.specs.declared.Runway.{Runway}
 use Rattle.board.specs.declared.Board.{Board}
 use Rattle.board.specs.Board.{runwaysOf, validList, validBoard, fresh, answer}

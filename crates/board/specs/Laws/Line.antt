@@ -23,9 +23,10 @@ use Rattle.text.specs.Laws.Lines.{Ends, whole-sound, whole-complete}
 use Rattle.runway.specs.Runway.{isSide, validRunway}
 use Rattle.runway.specs.Laws.Runway.{runway-laws}
 use Rattle.row.specs.declared.Row.{Row}
-use Rattle.row.specs.Row.{highestRunway, validRow, isBlankRow, rowPieces}
+use Rattle.row.specs.Row.{highestRunway, validRow, isBlankRow}
+use Rattle.rowtext.specs.Text.{rowPieces}
 use Rattle.row.specs.Laws.Row.{blank-row}
-use Rattle.row.specs.Laws.Sizes.{row-size}
+use Rattle.rowtext.specs.Laws.Sizes.{row-size}
 use Rattle.heading.specs.Letters.{isLetters}
 use Rattle.heading.specs.Heading.{aerodromeSize, readAerodrome}
 use Rattle.heading.specs.Laws.Letters.{letters-laws}

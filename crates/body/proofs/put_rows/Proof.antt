@@ -1,4 +1,4 @@
-use Rattle.text.specs.Laws.Put.{nothing-put}
+use Rattle.text.specs.Laws.Put.{nothing-put, more}
 use native.Mathlib.Omega.{arith}
 use Prim.Native.Nat.{_≤_, _-_}
 use mathlib.Core.Path.{_≡_, refl, sym, subst, _∙_}
@@ -6,9 +6,8 @@ use mathlib.Core.List.{map}
 use lib.ListN.{length, take, length-take, length-map}
 use lib.Seq.{take-all}
 use Rattle.text.specs.Put.{Put}
-use Rattle.text.specs.Laws.Put.{more}
 use Rattle.text.specs.Lines.{under}
-use Rattle.row.specs.Row.{rowPieces}
+use Rattle.rowtext.specs.Text.{rowPieces}
 use Rattle.body.specs.Rows.{rowsOf}
 use Rattle.body.proofs.Loops.{text-next}
 use borrow.Author.Needs.{needs}

@@ -15,9 +15,10 @@ use Rattle.text.specs.Lines.{closed, front, opened}
 use Rattle.text.specs.Laws.Base.{Laws, Head, true-false, and-1, and-2, and-i}
 use Rattle.text.specs.Laws.Lines.{Tells, whole-sound, whole-complete, final, next as and-next, typed-clean, closed-on, closed-off, closed-is}
 use Rattle.row.specs.declared.Row.{Row}
-use Rattle.row.specs.Row.{validRow, rowPieces}
-use Rattle.row.specs.Reading.{wholeRow}
-use Rattle.row.specs.Laws.Row.{row-laws}
+use Rattle.row.specs.Row.{validRow}
+use Rattle.rowtext.specs.Text.{rowPieces}
+use Rattle.rowtext.specs.Reading.{wholeRow}
+use Rattle.rowtext.specs.Laws.Row.{row-laws}
 use Rattle.text.specs.Out.{refuse, taken, fit, atEnd}
 use Rattle.body.specs.Rows.{isAmong, newRunways, After, finished, more, Block, block, readRows}
 use Rattle.text.specs.Laws.Out.{no-refuse, took, fit-took, end-took, Numbered, fit-numbered, pick-numbered, end-numbered}

@@ -11,8 +11,8 @@ use Rattle.text.specs.Choice.{pick, _and_, isEmpty}
 use Rattle.text.specs.Laws.Base.{and-1, and-2}
 use Rattle.text.specs.Laws.Sizes.{no-size, verbatim-size, total}
 use Rattle.row.specs.declared.Row.{Row}
-use Rattle.row.specs.Row.{rowPieces}
-use Rattle.row.specs.Laws.Sizes.{row-size}
+use Rattle.rowtext.specs.Text.{rowPieces}
+use Rattle.rowtext.specs.Laws.Sizes.{row-size}
 use Rattle.items.specs.declared.Item.{Item}
 use Rattle.items.specs.Awareness.{validItems, awarenessPieces}
 use Rattle.items.specs.Language.{validLanguage}

@@ -11,8 +11,9 @@ use Rattle.text.specs.Read.{Got, got, whole}
 use Rattle.text.specs.Laws.Base.{true-false, inline, and-1, and-2, and-i}
 use Rattle.text.specs.Laws.Lines.{Tells, whole-sound, whole-complete, all-append, next as and-next}
 use Rattle.row.specs.declared.Row.{Row}
-use Rattle.row.specs.Row.{validRow, rowPieces}
-use Rattle.row.specs.Laws.Row.{row-laws}
+use Rattle.row.specs.Row.{validRow}
+use Rattle.rowtext.specs.Text.{rowPieces}
+use Rattle.rowtext.specs.Laws.Row.{row-laws}
 use Rattle.items.specs.declared.Item.{Item}
 use Rattle.text.specs.Laws.Same.{same-true, same-refl}
 use Rattle.items.specs.Awareness.{validItems, awarenessPieces}

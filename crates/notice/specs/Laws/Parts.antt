@@ -5,7 +5,7 @@ use mathlib.Core.Bool.{true}
 use Rattle.text.specs.Piece.{Piece}
 use Rattle.text.specs.Laws.Base.{and-1, and-2, and-i}
 use Rattle.row.specs.declared.Row.{Row}
-use Rattle.row.specs.Row.{rowPieces}
+use Rattle.rowtext.specs.Text.{rowPieces}
 use Rattle.items.specs.Awareness.{validItems}
 use Rattle.heading.specs.declared.Addresses.{Addresses}
 use Rattle.heading.specs.declared.Filing.{Filing}

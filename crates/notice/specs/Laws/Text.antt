@@ -11,7 +11,7 @@ use Rattle.text.specs.Lines.{under}
 use Rattle.text.specs.Put.{Put}
 use Rattle.text.specs.Laws.Ended.{under-append, ended-under}
 use Rattle.text.specs.Laws.Put.{whole-put}
-use Rattle.row.specs.Row.{rowPieces}
+use Rattle.rowtext.specs.Text.{rowPieces}
 use Rattle.heading.specs.Addresses.{addressesPieces}
 use Rattle.heading.specs.Filing.{filingPieces}
 use Rattle.heading.specs.Heading.{headingPieces, serialPieces, aerodromePieces}

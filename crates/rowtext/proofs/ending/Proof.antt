@@ -1,0 +1,12 @@
+use Rattle.text.specs.Laws.Tests.{tests}
+use Rattle.rowtext.proofs.ending.Statement.{statement}
+use Rattle.rowtext.proofs.ending.Tie as tie
+
+returns : tie.Need-returns
+returns c = search tests
+
+returns-2 : tie.Need-returns-2
+returns-2 c = search tests
+
+pub ending-spec : {M : Type 1} → statement M
+ending-spec = tie.close (tie.spec returns returns-2)

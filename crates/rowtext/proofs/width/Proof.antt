@@ -1,0 +1,65 @@
+use mathlib.Core.Path.{refl}
+use lib.Dec.{lit<}
+use lib.ListN.{drop}
+use borrow.Author.Tests.{le-leb, lt-leb}
+use Rattle.text.specs.Piece.{bytes}
+use Rattle.text.specs.Laws.Held.{held-text, got-of, misfit-of}
+use Rattle.rowtext.specs.Reading.{readWidth}
+use Rattle.rowtext.proofs.Steps.{two-low}
+use borrow.Author.Needs.{needs}
+use Rattle.rowtext.proofs.width.Statement.{statement}
+use Rattle.rowtext.proofs.width.Tie as tie
+
+slice-aggregate-word : tie.Need-slice-aggregate-word
+slice-aggregate-word c = search needs
+
+word-requires : tie.Need-word-requires
+word-requires c κs = search needs
+
+digits-requires : tie.Need-digits-requires
+digits-requires c κs = search needs
+
+returns : tie.Need-returns
+unfolding readWidth
+returns c =
+    let c₁ = c .before .before in
+    let c₂ = c₁ .before in
+    let c₃ = c₂ .before in
+    let c₄ = c₃ .before in
+    let c₅ = c₄ .before .before .before in
+    let m = c₅ .args .s .now in let e = got-of (c₂ .digits .ensures) (c₁ .if2 .taken) in (record { within = c₂ .digits .ensures .within; says = rw (held-text (bytes " ") m 0 (c₄ .word .ensures), c₃ .if1 .taken, e, le-leb 1 _ (c .if3 .taken), c₁ .if2 .taken); blank = c₂ .digits .ensures .blank }, two-low (drop (c₄ .word .result .next) m) e)
+
+returns-2 : tie.Need-returns-2
+unfolding readWidth
+returns-2 c =
+    let c₁ = c .before .before in
+    let c₂ = c₁ .before in
+    let c₃ = c₂ .before in
+    let c₄ = c₃ .before in
+    let c₅ = c₄ .before .before .before in
+    (record { within = search needs; says = rw (held-text (bytes " ") (c₅ .args .s .now) 0 (c₄ .word .ensures), c₃ .if1 .taken, got-of (c₂ .digits .ensures) (c₁ .if2 .taken), lt-leb 1 _ (c .if3 .left)); blank = refl }, lit< tt)
+
+returns-3 : tie.Need-returns-3
+unfolding readWidth
+returns-3 c =
+    let c₁ = c .before in
+    let c₂ = c₁ .before in
+    let c₃ = c₂ .before in
+    let c₄ = c₃ .before .before .before in
+    (record { within = search needs; says = rw (held-text (bytes " ") (c₄ .args .s .now) 0 (c₃ .word .ensures), c₂ .if1 .taken, misfit-of (c₁ .digits .ensures) (c .if2 .left)); blank = refl }, lit< tt)
+
+returns-4 : tie.Need-returns-4
+unfolding readWidth
+returns-4 c = (record { within = search needs; says = rw (held-text (bytes " ") (c .before .before .before .before .args .s .now) 0 (c .before .word .ensures), c .if1 .left); blank = refl }, lit< tt)
+
+pub width-spec : {M : Type 1} → statement M
+width-spec =
+    tie.close
+    (tie.spec
+    slice-aggregate-word
+    word-requires
+    digits-requires
+    returns
+    returns-2
+    returns-3
+    returns-4)

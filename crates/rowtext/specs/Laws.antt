@@ -1,0 +1,3 @@
+pub mod Tail
+pub mod Row
+pub mod Sizes

@@ -1,0 +1,9 @@
+-- Definitions; what is shown of them, in Theorems, and the laws that it rests on; tables that the checker evaluates.
+pub mod Text
+pub mod Reading
+pub mod Writing
+pub mod Filling
+pub mod Laws
+pub mod Theorems
+pub mod Edges
+pub mod Pins
