@@ -1,4 +1,2 @@
 pub mod Places
-pub mod Runways
 pub mod Lines
-pub mod Writing

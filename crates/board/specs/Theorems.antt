@@ -1,33 +1,20 @@
 -- Demand 3: in whatever order the inspection cars call in, the board shows for each runway the report observed last.
-use Prim.Native.Nat.{ℕ, _<_, _≤_}
+use Prim.Native.Nat.{ℕ, _<_}
 use mathlib.Core.Path.{_≡_, refl, sym, subst, _∙_, ap}
 use mathlib.Core.List.{List, [], List·Permᴰ, Permᴰ·symm}
 use mathlib.Core.Bool.{Bool, true, false}
-use lib.ListN.{length, getD}
+use lib.ListN.{getD}
 use native.Mathlib.Omega.{arith}
-use Rattle.text.specs.Choice.{pick, isEmpty}
-use Rattle.text.specs.Put.{Put}
-use Rattle.text.specs.Laws.Put.{put-one}
+use Rattle.text.specs.Choice.{pick}
 use Rattle.row.specs.declared.Row.{Row}
-use Rattle.body.specs.declared.Items.{Items}
-use Rattle.body.specs.declared.Language.{Language}
-use Rattle.notice.specs.declared.Record.{Record}
-use Rattle.notice.specs.declared.Written.{Written}
-use Rattle.notice.specs.Record.{validRecord}
-use Rattle.notice.specs.Notice.{noticeText}
-use Rattle.notice.specs.Writing.{unwritten, writing}
 use Rattle.board.specs.declared.Runway.{Runway}
 use Rattle.board.specs.declared.Board.{Board}
-use Rattle.board.specs.declared.Details.{Details}
 use Rattle.board.specs.Board.{blankRunway, runwaysOf, validList, validBoard, fresh, blankBoard, answer, opening}
 use Rattle.board.specs.Report.{placeOf, stored, report, reports}
-use Rattle.board.specs.Line.{shownText}
-use Rattle.board.specs.Writing.{reported, recordOf, writingBoard, writtenBoard, WroteBoard}
 use Rattle.board.specs.Shows.{shownAt, Shows, Apart}
 use Rattle.board.specs.Laws.Shows.{shows-one, shows-moved, permuted}
 use Rattle.board.specs.Laws.Rules.{takes, report-board, taken-0, reports-valid, SameList, reports-list}
 use Rattle.board.specs.Laws.Step.{again-20}
-use Rattle.board.specs.Laws.Writing.{detailsOf, board-written}
 use Rattle.board.specs.Laws.Demand.{shows-after, nothing-at, same-board, opened}
 
 -- opening takes a list exactly if it is valid
@@ -80,14 +67,6 @@ module _ (a : List ℕ) (n : ℕ) (ws : List Runway) (b : Board) (taken : openin
         (record { aerodrome = x .aerodrome ∙ sym (y .aerodrome); count = x .count ∙ sym (y .count); runways = x .runways ∙ sym (y .runways) })
         (λ i l. shows-moved (getD ws i blankRunway) (permuted moved) (permuted (Permᴰ·symm moved)) (apart i (omega arith)) (runway-shows xs i (omega arith)) (runway-shows ys i (omega arith)))
 
-    -- and with the same details, items, plain language and buffer give the same refusal, or the same notice byte for byte
-    module _ (d : Details) (i : Items) (l : Language) where
-      pub same-answer : (room : ℕ) → writingBoard (reports b xs) d i l room ≡ writingBoard (reports b ys) d i l room
-      same-answer room = ap (λ c. writingBoard c d i l room) order-free
-
-      pub same-bytes : (buffer : List ℕ) → writtenBoard (reports b xs) d i l buffer ≡ writtenBoard (reports b ys) d i l buffer
-      same-bytes buffer = ap (λ c. writtenBoard c d i l buffer) order-free
-
 -- a refused report leaves the board as it was
 pub refused-stays : (b : Board) (r : Row) → (report b r .refusal ≡ 0 → ⊥) → report b r .board ≡ b
 refused-stays b r h = report-board b r ∙ go (takes b r) refl
@@ -100,32 +79,6 @@ refused-stays b r h = report-board b r ∙ go (takes b r) refl
 pub twice : (b c : Board) (r : Row) → report b r ≡ answer 0 c → report c r ≡ answer 20 c
 twice = again-20
 
--- writing a board: 17, 21, and then the notice of its record with 13, 14
-module _ (b : Board) (d : Details) (i : Items) (l : Language) (room : ℕ) where
-  pub writes-17 : validBoard b ≡ false → writingBoard b d i l room ≡ unwritten 17
-  unfolding writingBoard
-  writes-17 h = rw h
-
-  module _ (v : validBoard b ≡ true) where
-    pub writes-21 : reported (b .rows) ≡ [] → writingBoard b d i l room ≡ unwritten 21
-    unfolding writingBoard
-    writes-21 e = rw (v, e)
-
-    pub writes : isEmpty (reported (b .rows)) ≡ false → writingBoard b d i l room ≡ writing (recordOf b d i l) room
-    unfolding writingBoard
-    writes e = rw (v, e)
-
--- with the details, items and plain language of any valid record, every board that shows a row is written if there is room: 13 never comes by the board
-pub board-writes : (b : Board) → validBoard b ≡ true → isEmpty (reported (b .rows)) ≡ false → (r : Record) → validRecord r ≡ true → (room : ℕ)
-    → length (noticeText (recordOf b (detailsOf r) (r .items) (r .language))) ≤ room → writingBoard b (detailsOf r) (r .items) (r .language) room .refusal ≡ 0
-board-writes b v some r h room fits = ap (λ w. w .refusal) (board-written b v some r h room fits)
-
--- each promise leaves no choice: those of opening, reporting and their lines are equations, and of the others
-pub wrote-one : {b : Board} {d : Details} {i : Items} {l : Language} {before x y : List ℕ} {v w : Written} → WroteBoard b d i l before x v → WroteBoard b d i l before y w → (v ≡ w) × (x ≡ y)
-wrote-one p q = (p .answer ∙ sym (q .answer), p .holds ∙ sym (q .holds))
-
+-- each promise leaves no choice: those of opening and reporting are equations, and of the desk's step
 pub stepped-one : (b : Board) (r : Row) {c d : Board} {n m : ℕ} → (c ≡ report b r .board) × (n ≡ report b r .refusal) → (d ≡ report b r .board) × (m ≡ report b r .refusal) → (c ≡ d) × (n ≡ m)
 stepped-one b r p q = (p .0 ∙ sym (q .0), p .1 ∙ sym (q .1))
-
-pub shown-one : (r : Row) {before x y : List ℕ} {n m : ℕ} → Put 0 (shownText r) before x n → Put 0 (shownText r) before y m → (n ≡ m) × (x ≡ y)
-shown-one r p q = put-one p q

@@ -1,45 +1,22 @@
-// The board: the rows last observed on the runways of one aerodrome, and the lines of the desk that keeps it.
+// The board: the rows last observed on the runways of one aerodrome. Its rules, opening and reports.
 // The definitions that the promises cite stand in specs/; demand 3 is specs/Theorems.
 
 ghost use mathlib.Core.Path.{_≡_};
 ghost use lib.Dec.{ltb};
-ghost use lib.ListN.{take, drop, getD};
+ghost use lib.ListN.{take, drop};
 ghost use Rattle.text.specs.Choice.{pick, all};
-ghost use Rattle.text.specs.Read.{misfit, whole};
-ghost use Rattle.text.specs.Put.{Put};
-ghost use Rattle.runway.specs.Held.{HeldRunway};
-ghost use Rattle.row.specs.Row.{blankRow, isBlankRow};
-ghost use Rattle.body.specs.Rows.{makeRows};
+ghost use Rattle.row.specs.Row.{isBlankRow};
 ghost use Rattle.board.specs.Board.{isAerodrome, blankRunway, isBlankRunway, comesBefore, rises, rising, validList, names, fitsPlace, validPlaces, validBoard, blankBoard, opening, refusedOpening};
-ghost use Rattle.board.specs.Report.{placeOf, rowAt, isNews, report};
-ghost use Rattle.board.specs.Line.{readSpaced, readRunways, listAnswer, openingLine, reportLine, shownText};
-ghost use Rattle.board.specs.Writing.{reported, recordOf, WroteBoard};
-use body::Items;
-use body::Language;
-use body::Rows;
-use heading::Addresses;
-use heading::Filing;
-use heading::Title;
+ghost use Rattle.board.specs.Report.{placeOf, isNews, report};
 use heading::read_aerodrome;
-use notice::LONGEST;
-use notice::Record;
-use notice::Written;
-use notice::write;
 use row::HIGHEST_RUNWAY;
 use row::INVALID_ROW;
-use rowtext::REFUSED_ROW;
 use row::Row;
 use row::blank_row;
 use row::is_blank_row;
-use rowtext::put_any_row;
-use rowtext::read_row;
 use row::valid_row;
-use runway::NO_RUNWAY;
-use runway::RunwayFound;
 use runway::is_later;
-use runway::read_runway;
 use runway::valid_runway;
-use fill::put;
 
 pub struct Runway {
     pub number: u8,
@@ -61,26 +38,18 @@ pub struct Answer {
     pub board: Board,
 }
 
-// What the heading of a notice says besides the aerodrome and the time.
-pub struct Details {
-    pub addresses: Addresses,
-    pub filing: Filing,
-    pub region: [u8; 2],
-    pub serial: u16,
-}
-
 pub const PLACES: usize = 8;
 
-const MOST_RUNWAYS: u8 = 8;
+pub const MOST_RUNWAYS: u8 = 8;
 
 // Refusal numbers.
-const WRONG_BOARD: u8 = 17;
+pub const WRONG_BOARD: u8 = 17;
 
 const NOT_ON_BOARD: u8 = 18;
 
 const NOT_LATER: u8 = 20;
 
-const BLANK_RUNWAY: Runway = Runway { number: 0, side: 0 };
+pub const BLANK_RUNWAY: Runway = Runway { number: 0, side: 0 };
 
 // ---- The rules
 
@@ -249,7 +218,7 @@ fn blank_board() -> Board
     }
 }
 
-fn refused_opening() -> Answer
+pub fn refused_opening() -> Answer
     ensures { λ a. ⌜ a ≡ refusedOpening ⌝ }
 {
     let b = blank_board();
@@ -364,197 +333,4 @@ pub fn updated(b: Board, row: Row) -> Answer
     let mut board = b;
     let refusal = take_report(&mut board, row);
     Answer { refusal, board }
-}
-
-// ---- The desk's lines
-
-// Runways in their array, zeros past the count; none where the text does not fit.
-pub struct RunwayList {
-    pub count: u8,
-    pub runways: [Runway; 8],
-}
-
-// One space and a runway at `i`.
-fn spaced_runway(s: &[u8], i: usize) -> RunwayFound
-    ensures { λ r. ⌜ HeldRunway (now (s .entry)) (readSpaced (drop i (now (s .entry)))) r ⌝ }
-{
-    if i < s.len() {
-        if s[i] == b' ' {
-            return read_runway(s, i + 1);
-        }
-    }
-    NO_RUNWAY
-}
-
-fn no_list() -> RunwayList
-    ensures { λ r. ⌜ r ≡ listAnswer misfit ⌝ }
-{
-    RunwayList {
-        count: 0,
-        runways: [BLANK_RUNWAY; 8],
-    }
-}
-
-// The runways up to the end of the line, each read at its place.
-fn runway_list(s: &[u8]) -> RunwayList
-    ensures { λ r. ⌜ r ≡ listAnswer (whole (readRunways (now (s .entry)))) ⌝ }
-{
-    let mut runways = [BLANK_RUNWAY; 8];
-    let mut count: u8 = 0;
-    let mut at: usize = 0;
-    while at < s.len() {
-        if MOST_RUNWAYS <= count {
-            return no_list();
-        }
-        let found = spaced_runway(s, at);
-        if !found.fits {
-            return no_list();
-        }
-        let w = Runway {
-            number: found.number,
-            side: found.side,
-        };
-        runways[count as usize] = w;
-        count += 1;
-        at = found.next;
-    }
-    RunwayList { count, runways }
-}
-
-const AERODROME_SIZE: usize = 4;
-
-// The board that a line with the aerodrome and the runways, parted by one space, opens; 17 and the blank board for any other line.
-pub fn open_line(line: &[u8]) -> Answer
-    ensures { λ a. ⌜ a ≡ openingLine (now (line .entry)) ⌝ }
-{
-    if line.len() < AERODROME_SIZE {
-        return refused_opening();
-    }
-    let a = read_aerodrome(&line[..AERODROME_SIZE]);
-    if !a.fits {
-        return refused_opening();
-    }
-    let l = runway_list(&line[AERODROME_SIZE..]);
-    let aerodrome = a.aerodrome;
-    let runways = l.runways;
-    open(aerodrome, l.count, runways)
-}
-
-// The report that a line is: 5 where it is no row or is over 4,096 bytes.
-pub fn report_line(b: Board, line: &[u8]) -> Answer
-    ensures { λ a. ⌜ a ≡ reportLine b (now (line .entry)) ⌝ }
-{
-    if line.len() <= LONGEST {
-        let read = read_row(line);
-        if read.refusal == 0 {
-            let r = read.row;
-            return updated(b, r);
-        }
-    }
-    Answer {
-        refusal: REFUSED_ROW,
-        board: b,
-    }
-}
-
-fn row_at(rows: [Row; 8], i: usize) -> Row
-    ensures { λ r. ⌜ r ≡ getD rows i blankRow ⌝ }
-{
-    if i < PLACES {
-        return rows[i];
-    }
-    blank_row()
-}
-
-// The row's canonical line; nothing for a row that is not valid, so for zeros.
-fn put_line(rest: &mut [u8], r: Row) -> usize
-    ensures { λ n. ⌜ Put 0 (shownText r) (now (rest .entry)) (now (rest .exit)) n ⌝ }
-{
-    if valid_row(r) {
-        let at = put_any_row(rest, r);
-        return put(rest, at, b"\n");
-    }
-    put(rest, 0, b"")
-}
-
-// Puts the line of the row shown at a place, and answers how many bytes it has: none where the place shows nothing.
-pub fn put_shown(rest: &mut [u8], b: Board, i: usize) -> usize
-    ensures { λ n. ⌜ Put 0 (shownText (rowAt b i)) (now (rest .entry)) (now (rest .exit)) n ⌝ }
-{
-    let rows = b.rows;
-    let r = row_at(rows, i);
-    put_line(rest, r)
-}
-
-// ---- Writing a board
-
-const NO_REPORT: u8 = 21;
-
-// The rows shown, in board order, zeros behind them.
-fn shown_rows(rows: [Row; 8]) -> Rows
-    ensures { λ r. ⌜ r ≡ makeRows (reported rows) ⌝ }
-{
-    let none = blank_row();
-    let mut shown = [none; 8];
-    let mut count: u8 = 0;
-    let mut i: usize = 0;
-    while i < PLACES {
-        let r = rows[i];
-        i += 1;
-        if !is_blank_row(r) {
-            shown[count as usize] = r;
-            count += 1;
-        }
-    }
-    Rows { count, rows: shown }
-}
-
-// What the notice of a board says; its heading time is worked out where it is written.
-fn record_of(b: Board, d: Details, items: Items, language: Language) -> Record
-    ensures { λ r. ⌜ r ≡ recordOf b d items language ⌝ }
-{
-    let places = b.rows;
-    let rows = shown_rows(places);
-    let addresses = d.addresses;
-    let filing = d.filing;
-    let region = d.region;
-    let aerodrome = b.aerodrome;
-    Record {
-        addresses,
-        filing,
-        title: Title {
-            region,
-            serial: d.serial,
-            aerodrome,
-        },
-        rows,
-        items,
-        language,
-    }
-}
-
-// Writes the notice of a board: 17, then 21 where no row is shown, then 13 and 14. A refused writing touches no byte.
-pub fn write_board(
-    b: Board,
-    d: Details,
-    items: Items,
-    language: Language,
-    buffer: &mut [u8],
-) -> Written
-    ensures { λ w. ⌜ WroteBoard b d items language (now (buffer .entry)) (now (buffer .exit)) w ⌝ }
-{
-    if valid_board(b) {
-        let r = record_of(b, d, items, language);
-        if r.rows.count == 0 {
-            return Written {
-                refusal: NO_REPORT,
-                length: 0,
-            };
-        }
-        return write(r, buffer);
-    }
-    Written {
-        refusal: WRONG_BOARD,
-        length: 0,
-    }
 }

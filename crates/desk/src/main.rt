@@ -2,9 +2,9 @@
 // prints the rows shown, in board order. Lines may arrive in pieces of any size; what a line means is the promise of `board`.
 use board::Board;
 use board::PLACES;
-use board::open_line;
-use board::put_shown;
-use board::report_line;
+use desktext::open_line;
+use desktext::put_shown;
+use desktext::report_line;
 use libc::STDIN_FILENO;
 use libc::STDOUT_FILENO;
 use text::first_line;

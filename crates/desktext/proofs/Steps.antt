@@ -17,7 +17,7 @@ use Rattle.text.specs.Laws.Put.{more}
 use Rattle.board.specs.declared.Board.{Board}
 use Rattle.board.specs.declared.Answer.{Answer}
 use Rattle.board.specs.Report.{rowAt}
-use Rattle.board.specs.Line.{openingLine, reportLine, shownText}
+use Rattle.desktext.specs.Line.{openingLine, reportLine, shownText}
 use Rattle.desktext.specs.declared.Taken.{Taken}
 use Rattle.desktext.specs.Desk.{printed, answerLine, shownRows, answersText, refusedText, openedText, linesText, deskText}
 use Rattle.desktext.specs.Answers.{taken}

@@ -4,7 +4,7 @@ use Prim.Native.Nat.{ℕ}
 use lib.ListN.{take}
 use Rattle.text.specs.Lines.{lineSize, lineStep}
 use Rattle.board.specs.declared.Board.{Board}
-use Rattle.board.specs.Line.{reportLine}
+use Rattle.desktext.specs.Line.{reportLine}
 use Rattle.desktext.specs.declared.Taken.{Taken}
 
 -- the report that the first line is, and where the next line starts

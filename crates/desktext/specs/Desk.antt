@@ -10,7 +10,7 @@ use Rattle.board.specs.declared.Board.{Board}
 use Rattle.board.specs.declared.Answer.{Answer}
 use Rattle.board.specs.Board.{places}
 use Rattle.board.specs.Report.{rowAt}
-use Rattle.board.specs.Line.{openingLine, reportLine, shownText}
+use Rattle.desktext.specs.Line.{openingLine, reportLine, shownText}
 
 -- what is printed stands on a line of its own
 abbrev pub printed : List ℕ → List ℕ

@@ -1,5 +1,8 @@
--- What the desk prints; how the code answers; how long the text is; inputs that the checker evaluates.
+-- What the desk's lines mean, and what it prints; how the code answers; what is proved of the lines and of the text; inputs that the checker evaluates.
+pub mod Line
 pub mod Desk
 pub mod Answers
+pub mod Laws
 pub mod Theorems
+pub mod LineTables
 pub mod Tables

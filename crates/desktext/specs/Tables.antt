@@ -21,7 +21,7 @@ use Rattle.heading.specs.Letters.{isLetters}
 use Rattle.heading.specs.Heading.{readAerodrome}
 use Rattle.board.specs.Board.{isBlankRunway, comesBefore, rises, rising, isAerodrome, validList, names, fitsPlace, fitPlaces, validPlaces, validBoard, opening}
 use Rattle.board.specs.Report.{placeOf, isNews, report}
-use Rattle.board.specs.Line.{readSpaced, readOpening, openingLine, reportLine, shownText}
+use Rattle.desktext.specs.Line.{readSpaced, readOpening, openingLine, reportLine, shownText}
 use Rattle.desktext.specs.Desk.{answerLine, shownRows, answersText, deskText}
 
 -- lines, each ended by LF

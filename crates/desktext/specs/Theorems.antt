@@ -13,8 +13,8 @@ use Rattle.text.specs.Put.{Put}
 use Rattle.text.specs.Laws.Put.{whole-put}
 use Rattle.text.specs.Laws.Sizes.{size, number-size}
 use Rattle.board.specs.declared.Board.{Board}
-use Rattle.board.specs.Laws.Desk.{shown-size}
-use Rattle.board.specs.Line.{openingLine, reportLine}
+use Rattle.desktext.specs.Laws.Desk.{shown-size}
+use Rattle.desktext.specs.Line.{openingLine, reportLine}
 use Rattle.board.specs.Report.{rowAt}
 use Rattle.desktext.specs.Desk.{printed, answerLine, shownRows, answersText, refusedText, linesText, deskText}
 
@@ -61,3 +61,7 @@ desk-size m = go (lines m) (lines-few m)
 -- so a buffer of that size holds the whole text, and its length is told
 pub desk-whole : (m : List ℕ) {b x : List ℕ} {r : ℕ} → 3 * length m + 1186 ≤ length b → Put 0 (deskText m) b x r → (r ≡ length (deskText m)) × (x ≡ deskText m ++ drop (length (deskText m)) b)
 desk-whole m h p = whole-put p (omega (arith, desk-size m))
+
+-- the promise of a row shown leaves no choice
+pub shown-one : (r : Row) {before x y : List ℕ} {n m : ℕ} → Put 0 (shownText r) before x n → Put 0 (shownText r) before y m → (n ≡ m) × (x ≡ y)
+shown-one r p q = put-one p q

@@ -1,23 +1,163 @@
-// What the desk prints for a whole input, as one text: the board opened, each report answered, the rows shown.
+// The desk: what its lines mean, and what it prints for a whole input, as one text: the board opened, each report answered, the rows shown.
 
 ghost use mathlib.Core.Path.{_≡_};
 ghost use Rattle.text.specs.Lines.{lines};
 ghost use Rattle.text.specs.Put.{Put};
 ghost use Rattle.board.specs.Report.{rowAt};
-ghost use Rattle.board.specs.Line.{shownText};
+ghost use Rattle.desktext.specs.Line.{shownText, readSpaced, readRunways, listAnswer, openingLine, reportLine};
 ghost use Rattle.desktext.specs.Desk.{answerLine, shownRows, answersText, refusedText, deskText};
 ghost use Rattle.desktext.specs.Answers.{taken};
+ghost use lib.ListN.{drop, getD};
+ghost use Rattle.text.specs.Read.{misfit, whole};
+ghost use Rattle.runway.specs.Held.{HeldRunway};
+ghost use Rattle.row.specs.Row.{blankRow};
 use board::Answer;
+use board::BLANK_RUNWAY;
 use board::Board;
+use board::MOST_RUNWAYS;
 use board::PLACES;
-use board::open_line;
-use board::put_shown;
-use board::report_line;
-use text::first_line;
-use text::place;
+use board::Runway;
+use board::open;
+use board::refused_opening;
+use board::updated;
 use fill::put;
 use fill::put_number;
 use fill::told_behind;
+use heading::read_aerodrome;
+use text::LONGEST;
+use row::Row;
+use row::blank_row;
+use row::valid_row;
+use rowtext::REFUSED_ROW;
+use rowtext::put_any_row;
+use rowtext::read_row;
+use runway::NO_RUNWAY;
+use runway::RunwayFound;
+use runway::read_runway;
+use text::first_line;
+use text::place;
+
+// ---- The desk's lines
+
+// Runways in their array, zeros past the count; none where the text does not fit.
+pub struct RunwayList {
+    pub count: u8,
+    pub runways: [Runway; 8],
+}
+
+// One space and a runway at `i`.
+fn spaced_runway(s: &[u8], i: usize) -> RunwayFound
+    ensures { λ r. ⌜ HeldRunway (now (s .entry)) (readSpaced (drop i (now (s .entry)))) r ⌝ }
+{
+    if i < s.len() {
+        if s[i] == b' ' {
+            return read_runway(s, i + 1);
+        }
+    }
+    NO_RUNWAY
+}
+
+fn no_list() -> RunwayList
+    ensures { λ r. ⌜ r ≡ listAnswer misfit ⌝ }
+{
+    RunwayList {
+        count: 0,
+        runways: [BLANK_RUNWAY; 8],
+    }
+}
+
+// The runways up to the end of the line, each read at its place.
+fn runway_list(s: &[u8]) -> RunwayList
+    ensures { λ r. ⌜ r ≡ listAnswer (whole (readRunways (now (s .entry)))) ⌝ }
+{
+    let mut runways = [BLANK_RUNWAY; 8];
+    let mut count: u8 = 0;
+    let mut at: usize = 0;
+    while at < s.len() {
+        if MOST_RUNWAYS <= count {
+            return no_list();
+        }
+        let found = spaced_runway(s, at);
+        if !found.fits {
+            return no_list();
+        }
+        let w = Runway {
+            number: found.number,
+            side: found.side,
+        };
+        runways[count as usize] = w;
+        count += 1;
+        at = found.next;
+    }
+    RunwayList { count, runways }
+}
+
+const AERODROME_SIZE: usize = 4;
+
+// The board that a line with the aerodrome and the runways, parted by one space, opens; 17 and the blank board for any other line.
+pub fn open_line(line: &[u8]) -> Answer
+    ensures { λ a. ⌜ a ≡ openingLine (now (line .entry)) ⌝ }
+{
+    if line.len() < AERODROME_SIZE {
+        return refused_opening();
+    }
+    let a = read_aerodrome(&line[..AERODROME_SIZE]);
+    if !a.fits {
+        return refused_opening();
+    }
+    let l = runway_list(&line[AERODROME_SIZE..]);
+    let aerodrome = a.aerodrome;
+    let runways = l.runways;
+    open(aerodrome, l.count, runways)
+}
+
+// The report that a line is: 5 where it is no row or is over 4,096 bytes.
+pub fn report_line(b: Board, line: &[u8]) -> Answer
+    ensures { λ a. ⌜ a ≡ reportLine b (now (line .entry)) ⌝ }
+{
+    if line.len() <= LONGEST {
+        let read = read_row(line);
+        if read.refusal == 0 {
+            let r = read.row;
+            return updated(b, r);
+        }
+    }
+    Answer {
+        refusal: REFUSED_ROW,
+        board: b,
+    }
+}
+
+fn row_at(rows: [Row; 8], i: usize) -> Row
+    ensures { λ r. ⌜ r ≡ getD rows i blankRow ⌝ }
+{
+    if i < PLACES {
+        return rows[i];
+    }
+    blank_row()
+}
+
+// The row's canonical line; nothing for a row that is not valid, so for zeros.
+fn put_line(rest: &mut [u8], r: Row) -> usize
+    ensures { λ n. ⌜ Put 0 (shownText r) (now (rest .entry)) (now (rest .exit)) n ⌝ }
+{
+    if valid_row(r) {
+        let at = put_any_row(rest, r);
+        return put(rest, at, b"\n");
+    }
+    put(rest, 0, b"")
+}
+
+// Puts the line of the row shown at a place, and answers how many bytes it has: none where the place shows nothing.
+pub fn put_shown(rest: &mut [u8], b: Board, i: usize) -> usize
+    ensures { λ n. ⌜ Put 0 (shownText (rowAt b i)) (now (rest .entry)) (now (rest .exit)) n ⌝ }
+{
+    let rows = b.rows;
+    let r = row_at(rows, i);
+    put_line(rest, r)
+}
+
+// ---- What the desk prints
 
 // The report that a line is, and where the next line starts.
 struct Taken {

@@ -9,7 +9,7 @@ use lib.ListN.{length, take, drop}
 use borrow.Author.Tests.{eq-eqb, ne-eqb, le-leb, lt-leb}
 use Rattle.text.specs.Choice.{pick}
 use Rattle.text.specs.Held.{Reached}
-use Rattle.text.specs.Lines.{lines}
+use Rattle.text.specs.Lines.{lines, longest}
 use Rattle.text.specs.Laws.Held.{part-all}
 use Rattle.body.specs.declared.Rows.{Rows}
 use Rattle.body.specs.declared.RowsRead.{RowsRead}
@@ -24,7 +24,7 @@ use Rattle.front.specs.declared.FrontRead.{FrontRead}
 use Rattle.notice.specs.declared.Record.{Record}
 use Rattle.notice.specs.declared.Reading.{Reading}
 use Rattle.notice.specs.Record.{makeRecord}
-use Rattle.notice.specs.Reading.{agreeing, accepted, refused, result, longest, reading}
+use Rattle.notice.specs.Reading.{agreeing, accepted, refused, result, reading}
 use Rattle.front.specs.Front.{headingOf, FrontHeld}
 use Rattle.remarks.specs.declared.RemarksRead.{RemarksRead}
 use Rattle.remarks.specs.Held.{remarksAnswer}

@@ -54,10 +54,6 @@ abbrev pub result : Out Record → Reading
 result (refuse n) = refused n
 result (taken r) = accepted r
 
--- "message over 4,096 bytes"
-abbrev pub longest : ℕ
-longest = 4096
-
 -- "1 first, then line by line"
 unfoldable pub reading : List ℕ → Reading
 reading m = pick (leb (length m) longest) (result (readNotice (lines m))) (refused 1)

@@ -46,6 +46,7 @@ use sameness::same_items;
 use sameness::same_language;
 use sameness::same_rows;
 use sameness::same_title;
+use text::LONGEST;
 use text::place;
 use fill::put;
 use scan::same_bytes;
@@ -155,9 +156,6 @@ fn accepted(front: Front, rows: Rows, remarks: RemarksRead) -> Reading
         },
     }
 }
-
-// The longest message that is read; the desk takes no longer line.
-pub const LONGEST: usize = 4096;
 
 const TOO_LONG: u8 = 1;
 

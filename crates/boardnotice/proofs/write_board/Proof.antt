@@ -1,0 +1,48 @@
+use mathlib.Core.Path.{sym, _∙_}
+use Rattle.boardnotice.proofs.Writing.{wrote-17, wrote-21, wrote-record}
+use borrow.Author.Needs.{needs}
+use Rattle.boardnotice.proofs.write_board.Statement.{statement}
+use Rattle.boardnotice.proofs.write_board.Tie as tie
+
+valid-board-requires : tie.Need-valid-board-requires
+valid-board-requires c κs = search needs
+
+record-of-requires : tie.Need-record-of-requires
+record-of-requires c κs = search needs
+
+returns : tie.Need-returns
+returns c =
+    let k = c .before .before in
+    let g = k .before in
+    let a = g .before .before .before .args in
+    wrote-21 (a .b) (a .d) (a .items) (a .language) (sym (g .before .valid-board .ensures) ∙ g .if1 .taken) (k .record-of .ensures) (c .if2 .taken)
+
+write-requires : tie.Need-write-requires
+write-requires c κs = search needs
+
+same-length : tie.Need-same-length
+same-length c = search needs
+
+returns-2 : tie.Need-returns-2
+returns-2 c =
+    let w = c .before .before in
+    let s = w .before .before in
+    let k = s .before .before in
+    let g = k .before in
+    let a = g .before .before .before .args in
+    wrote-record (a .b) (a .d) (a .items) (a .language) (sym (g .before .valid-board .ensures) ∙ g .if1 .taken) (k .record-of .ensures) (s .if2 .left) (w .write .ensures)
+
+returns-3 : tie.Need-returns-3
+returns-3 c = let a = c .before .before .before .args in wrote-17 (a .b) (a .d) (a .items) (a .language) (sym (c .before .valid-board .ensures) ∙ c .if1 .left)
+
+pub write-board-spec : {M : Type 1} → statement M
+write-board-spec =
+    tie.close
+    (tie.spec
+    valid-board-requires
+    record-of-requires
+    returns
+    write-requires
+    same-length
+    returns-2
+    returns-3)

@@ -1,0 +1,102 @@
+// A board written as a notice.
+
+ghost use mathlib.Core.Path.{_≡_};
+ghost use Rattle.body.specs.Rows.{makeRows};
+ghost use Rattle.boardnotice.specs.Writing.{reported, recordOf, WroteBoard};
+use board::Board;
+use board::PLACES;
+use board::WRONG_BOARD;
+use board::valid_board;
+use body::Items;
+use body::Language;
+use body::Rows;
+use heading::Addresses;
+use heading::Filing;
+use heading::Title;
+use notice::Record;
+use notice::Written;
+use notice::write;
+use row::Row;
+use row::blank_row;
+use row::is_blank_row;
+
+// What the heading of a notice says besides the aerodrome and the time.
+pub struct Details {
+    pub addresses: Addresses,
+    pub filing: Filing,
+    pub region: [u8; 2],
+    pub serial: u16,
+}
+
+// ---- Writing a board
+
+const NO_REPORT: u8 = 21;
+
+// The rows shown, in board order, zeros behind them.
+fn shown_rows(rows: [Row; 8]) -> Rows
+    ensures { λ r. ⌜ r ≡ makeRows (reported rows) ⌝ }
+{
+    let none = blank_row();
+    let mut shown = [none; 8];
+    let mut count: u8 = 0;
+    let mut i: usize = 0;
+    while i < PLACES {
+        let r = rows[i];
+        i += 1;
+        if !is_blank_row(r) {
+            shown[count as usize] = r;
+            count += 1;
+        }
+    }
+    Rows { count, rows: shown }
+}
+
+// What the notice of a board says; its heading time is worked out where it is written.
+fn record_of(b: Board, d: Details, items: Items, language: Language) -> Record
+    ensures { λ r. ⌜ r ≡ recordOf b d items language ⌝ }
+{
+    let places = b.rows;
+    let rows = shown_rows(places);
+    let addresses = d.addresses;
+    let filing = d.filing;
+    let region = d.region;
+    let aerodrome = b.aerodrome;
+    Record {
+        addresses,
+        filing,
+        title: Title {
+            region,
+            serial: d.serial,
+            aerodrome,
+        },
+        rows,
+        items,
+        language,
+    }
+}
+
+// Writes the notice of a board: 17, then 21 where no row is shown, then 13 and 14. A refused writing touches no byte.
+pub fn write_board(
+    b: Board,
+    d: Details,
+    items: Items,
+    language: Language,
+    buffer: &mut [u8],
+) -> Written
+    ensures { λ w. ⌜ WroteBoard b d items language (now (buffer .entry)) (now (buffer .exit)) w ⌝ }
+{
+    if valid_board(b) {
+        let r = record_of(b, d, items, language);
+        if r.rows.count == 0 {
+            return Written {
+                refusal: NO_REPORT,
+                length: 0,
+            };
+        }
+        return write(r, buffer);
+    }
+    Written {
+        refusal: WRONG_BOARD,
+        length: 0,
+    }
+}

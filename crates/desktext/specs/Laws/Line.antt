@@ -1,0 +1,148 @@
+-- An opening line is read exactly if it is the text of an aerodrome and runways.
+use Prim.Native.Nat.{ℕ, _-_, _<_, _≤_, _^_}
+use mathlib.Core.Path.{_≡_, refl, sym, subst, _∙_, ap}
+use mathlib.Core.List.{List, [], _∷_}
+use mathlib.Core.Bool.{Bool, true, false}
+use lib.ListN.{length, take, getD, replicate, length-append}
+use borrow.Author.Tests.{eqb-true, leb-true}
+use native.Mathlib.Omega.{arith}
+use Rattle.text.specs.Held.{isSpace}
+use Rattle.text.specs.Choice.{pick, _and_, all, headIs}
+use Rattle.text.specs.Piece.{Typing, canonical, end, _then_}
+use Rattle.text.specs.Read.{Got, misfit, got, whole, readAs}
+use Rattle.text.specs.Names.{isLetter, readCount}
+use Rattle.text.specs.Arrays.{pad}
+use Rattle.text.specs.Laws.Base.{Laws, Head, Any, inner, and-1, and-2}
+use Rattle.text.specs.Laws.Combine.{seq-laws, as-laws, loosen}
+use Rattle.text.specs.Laws.Names.{count-laws}
+use Rattle.text.specs.Laws.Many.{Every, many-laws}
+use Rattle.text.specs.Laws.Arrays.{array-back, take-front}
+use Rattle.text.specs.Laws.Put.{canonical-append}
+use Rattle.text.specs.Laws.Sizes.{size}
+use Rattle.text.specs.Laws.Lines.{Ends, whole-sound, whole-complete}
+use Rattle.runway.specs.Runway.{isSide, validRunway}
+use Rattle.runway.specs.Laws.Runway.{runway-laws}
+use Rattle.row.specs.declared.Row.{Row}
+use Rattle.row.specs.Row.{highestRunway, validRow, isBlankRow}
+use Rattle.rowtext.specs.Text.{rowPieces}
+use Rattle.row.specs.Laws.Row.{blank-row}
+use Rattle.rowtext.specs.Laws.Sizes.{row-size}
+use Rattle.heading.specs.Letters.{isLetters}
+use Rattle.heading.specs.Heading.{aerodromeSize, readAerodrome}
+use Rattle.heading.specs.Laws.Letters.{letters-laws}
+use Rattle.board.specs.declared.Runway.{Runway}
+use Rattle.board.specs.declared.Board.{Board}
+use Rattle.board.specs.Board.{places, blankRunway, isBlankRunway, isAerodrome, rises, rising, validList, fitsPlace, runwaysOf, validBoard, fresh, answer, opening}
+use Rattle.board.specs.Report.{rowAt}
+use Rattle.board.specs.Shows.{nothing, row, shownAt}
+use Rattle.board.specs.Laws.Rules.{blank-invalid, rules, used, fit-at}
+use Rattle.board.specs.Laws.Demand.{opened as was-opened}
+use Rattle.desktext.specs.Line.{spacedPieces, readSpaced, makeRunway, openingPieces, readOpening, opened, openingLine}
+
+-- a number of two digits and a side: what a line can hold
+abbrev pub Written : Runway → Type 0
+Written w = (w .number < 10 ^ 2) × (w .side ≤ 3)
+
+space-inner : (b : ℕ) → isSpace b ≡ true → inner b ≡ true
+space-inner b h = rw (eqb-true b 32 h)
+
+-- one space is that byte
+one-space : (l : List ℕ) → length l ≡ 1 → all isSpace l ≡ true → 32 ∷ [] ≡ l
+one-space [] e h = absurd (omega arith)
+one-space (b ∷ []) e h = ap (λ c. c ∷ []) (sym (eqb-true b 32 (and-1 _ _ h)))
+one-space (b ∷ c ∷ l) e h = absurd (omega arith)
+
+pub spaced-laws : Laws Written spacedPieces (readAs makeRunway readSpaced) (Head isSpace) (λ r. headIs isSide r ≡ false)
+unfolding readSpaced _and_
+spaced-laws = as-laws (as-laws (seq-laws (count-laws isSpace space-inner 0) runway-laws (λ m h. tt)) (λ p. (p .0 < 10 ^ 2) × (p .1 ≤ 3)) (λ p. p .1) (λ p. (32 ∷ [], p))
+    (λ p v. (v .1, (λ i. (one-space (p .0) (v .0 .0) (v .0 .1) i, p .1)))) (λ p v. (((refl, refl), v), refl)))
+    Written makeRunway (λ w. (w .number, w .side)) (λ p v. (v, refl)) (λ w v. (v, refl))
+
+-- a side does not begin with a space
+pub space-no-side : (m : List ℕ) → Head isSpace m → headIs isSide m ≡ false
+space-no-side (x ∷ m) h = rw (eqb-true x 32 h)
+
+-- the line ends behind its last runway
+nothing-spaced : readAs makeRunway readSpaced [] ≡ misfit
+unfolding readSpaced readCount
+nothing-spaced = refl
+
+opening-laws : Laws (λ p. (isLetters aerodromeSize (p .0) ≡ true) × ((length (p .1) ≤ places) × Every Written (p .1))) (λ p. openingPieces (p .0) (p .1)) readOpening (Head isLetter) Ends
+unfolding readOpening openingPieces readAerodrome
+opening-laws = seq-laws (letters-laws 3) (loosen (many-laws spaced-laws space-no-side places) {s = Any} (λ m h. tt) ends) (λ m h. h)
+  where
+    ends : (r : List ℕ) → r ≡ [] → (headIs isSide r ≡ false) × (readAs makeRunway readSpaced r ≡ misfit)
+    ends r e = rw e (refl, nothing-spaced)
+
+all-written : (v : Runway) (ws : List Runway) → rising v ws ≡ true → Every Written ws
+unfolding rising rises validRunway
+all-written v [] h = tt
+all-written v (w ∷ ws) h =
+    let k = and-1 _ _ (and-1 _ _ h) in
+    let n = leb-true (w .number) highestRunway (and-1 _ _ (and-2 _ _ k)) in
+    ((omega arith, leb-true (w .side) 3 (and-2 _ _ (and-2 _ _ k))), all-written w ws (and-2 _ _ h))
+
+blank-runway : (w : Runway) → isBlankRunway w ≡ true → w ≡ blankRunway
+unfolding isBlankRunway
+blank-runway w h =
+    let n = eqb-true (w .number) 0 (and-1 _ _ h) in
+    let s = eqb-true (w .side) 0 (and-2 _ _ h) in
+    λ i. record { number = n i; side = s i }
+
+blank-is : isBlankRunway blankRunway ≡ true
+unfolding isBlankRunway _and_
+blank-is = refl
+
+-- a line that opens a board is the text of its aerodrome and runways
+pub line-sound : (line : List ℕ) (b : Board) → openingLine line ≡ answer 0 b → Typing (openingPieces (b .aerodrome) (runwaysOf b)) line
+unfolding openingLine
+line-sound line b e = go (whole (readOpening line)) refl e
+  where
+    go : (g : Got (List ℕ × List Runway)) → whole (readOpening line) ≡ g → opened g ≡ answer 0 b → Typing (openingPieces (b .aerodrome) (runwaysOf b)) line
+    go misfit q f = let z = ap (λ x. x .refusal) f in absurd (omega arith)
+    go (got p r) q f =
+        let o = was-opened (p .0) (length (p .1)) (pad places blankRunway (p .1)) b f .0 in
+        let t = whole-sound opening-laws {m = line} q .1 in
+        subst (λ c. Typing (openingPieces (c .aerodrome) (runwaysOf c)) line) (sym o) (rw (take-front (p .1) (replicate (places - length (p .1)) blankRunway)) t)
+
+-- the text of an aerodrome and a list that opening takes opens that board
+pub line-complete : (line a : List ℕ) (n : ℕ) (ws : List Runway) → validList a n ws ≡ true → Typing (openingPieces a (take n ws)) line → openingLine line ≡ answer 0 (fresh a n ws)
+unfolding openingLine opening validList isAerodrome
+line-complete line a n ws h t =
+    let h₁ = and-2 _ _ h in
+    let h₂ = and-2 _ _ h₁ in
+    let h₃ = and-2 _ _ h₂ in
+    let h₄ = and-2 _ _ h₃ in
+    let few = leb-true n places (and-1 _ _ h₂) in
+    let k = array-back blankRunway isBlankRunway blank-runway blank-is places n ws few (eqb-true (length ws) places (and-1 _ _ h₃)) (and-2 _ _ h₄) in
+    let s = k .0 in
+    let o : opening a n ws ≡ answer 0 (fresh a n ws) = rw h in
+    rw (whole-complete opening-laws (a, take n ws) {m = line} (and-1 _ _ h, (omega arith, all-written blankRunway (take n ws) (and-1 _ _ h₄))) t)
+    ((λ i. opening a (k .0 i) (k .1 i)) ∙ o)
+
+-- a place that shows a row holds that row, and it is valid
+pub shown-row : (b : Board) → validBoard b ≡ true → (i : ℕ) → i < b .count → (r : Row) → shownAt b i ≡ row r → (validRow r ≡ true) × (rowAt b i ≡ r)
+unfolding fitsPlace
+shown-row b v i l r e = go (isBlankRow (rowAt b i)) refl e
+  where
+    fit : fitsPlace (getD (runwaysOf b) i blankRunway) (rowAt b i) ≡ true
+    fit = let k = rules b v in let u = used b k in fit-at blankRunway (runwaysOf b) (b .rows) i (k .fit) (omega arith)
+
+    go : (t : Bool) → isBlankRow (rowAt b i) ≡ t → pick t nothing (row (rowAt b i)) ≡ row r → (validRow r ≡ true) × (rowAt b i ≡ r)
+    go true q f = let o : _≡_ {A = ℕ} 0 1 = cc in absurd (omega arith)
+    go false q f =
+        let s : rowAt b i ≡ r = cc in
+        (subst (λ x. validRow x ≡ true) s (and-1 _ _ (rw q at fit)), s)
+
+-- one that shows nothing holds no valid row
+pub shown-nothing : (b : Board) (i : ℕ) → shownAt b i ≡ nothing → validRow (rowAt b i) ≡ false
+shown-nothing b i e = go (isBlankRow (rowAt b i)) refl e
+  where
+    go : (t : Bool) → isBlankRow (rowAt b i) ≡ t → pick t nothing (row (rowAt b i)) ≡ nothing → validRow (rowAt b i) ≡ false
+    go true q f = ap validRow (blank-row (rowAt b i) q) ∙ blank-invalid
+    go false q f = let o : _≡_ {A = ℕ} 0 1 = cc in absurd (omega arith)
+
+-- a row's line, with its LF
+pub line-size : (r : Row) → length (canonical (rowPieces r then (end ∷ []))) ≤ 148
+unfolding size
+line-size r = let h = row-size r in rw (canonical-append, length-append) (omega arith)
