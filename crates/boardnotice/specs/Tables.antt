@@ -10,8 +10,8 @@ use Rattle.surface.specs.Descriptions.{isContaminant, isDeep}
 use Rattle.surface.specs.Third.{isBlankThird, isCoverage, validCoverage, leastDepth, isReported, validDepth, validThird}
 use Rattle.row.specs.Row.{blankRow, threeThat, isBlankRow, validRow}
 use Rattle.heading.specs.Letters.{isLetters}
-use Rattle.body.specs.declared.Items.{Items}
-use Rattle.body.specs.declared.Language.{Language}
+use Rattle.items.specs.declared.Items.{Items}
+use Rattle.items.specs.declared.Language.{Language}
 use Rattle.body.specs.Rows.{makeRows}
 use Rattle.boardnotice.specs.declared.Details.{Details}
 use Rattle.board.specs.Board.{isBlankRunway, comesBefore, rises, rising, isAerodrome, validList, names, fitsPlace, fitPlaces, validPlaces, validBoard, blankBoard}

@@ -6,8 +6,8 @@ use mathlib.Core.Bool.{true, false}
 use lib.ListN.{length, getD}
 use Rattle.text.specs.Choice.{isEmpty}
 use Rattle.row.specs.declared.Row.{Row}
-use Rattle.body.specs.declared.Items.{Items}
-use Rattle.body.specs.declared.Language.{Language}
+use Rattle.items.specs.declared.Items.{Items}
+use Rattle.items.specs.declared.Language.{Language}
 use Rattle.notice.specs.declared.Record.{Record}
 use Rattle.notice.specs.declared.Written.{Written}
 use Rattle.notice.specs.Record.{validRecord}

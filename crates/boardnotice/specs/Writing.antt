@@ -6,8 +6,8 @@ use lib.ListN.{length}
 use Rattle.text.specs.Choice.{pick, isEmpty}
 use Rattle.row.specs.declared.Row.{Row}
 use Rattle.row.specs.Row.{isBlankRow}
-use Rattle.body.specs.declared.Items.{Items}
-use Rattle.body.specs.declared.Language.{Language}
+use Rattle.items.specs.declared.Items.{Items}
+use Rattle.items.specs.declared.Language.{Language}
 use Rattle.body.specs.Rows.{makeRows}
 use Rattle.notice.specs.declared.Record.{Record}
 use Rattle.notice.specs.declared.Written.{Written}

@@ -22,8 +22,8 @@ use Rattle.row.specs.Row.{blankRow}
 use Rattle.rowtext.specs.Reading.{wholeRow, answer}
 use Rattle.body.specs.declared.Rows.{Rows}
 use Rattle.body.specs.declared.RowLine.{RowLine}
-use Rattle.text.specs.Out.{Out, refuse, fit, atEnd}
-use Rattle.body.specs.Rows.{mostRows, makeRows, isAmong, finished, Block, block, readRows}
+use Rattle.text.specs.Out.{Out, refuse, fit, atEnd, finished}
+use Rattle.body.specs.Rows.{mostRows, makeRows, isAmong, Block, block, readRows}
 use Rattle.body.specs.Held.{rowLine, Kept, rowsAnswer, RowsHeld}
 use Rattle.body.specs.Laws.Rows.{row-line}
 

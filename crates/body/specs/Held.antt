@@ -11,8 +11,8 @@ use Rattle.rowtext.specs.Reading.{wholeRow, answer}
 use Rattle.body.specs.declared.Rows.{Rows}
 use Rattle.body.specs.declared.RowLine.{RowLine}
 use Rattle.body.specs.declared.RowsRead.{RowsRead}
-use Rattle.text.specs.Out.{Out, refuse, taken}
-use Rattle.body.specs.Rows.{mostRows, rowsOf, makeRows, finished, more, Block, block, readRows}
+use Rattle.text.specs.Out.{Out, refuse, taken, finished, more}
+use Rattle.body.specs.Rows.{mostRows, rowsOf, makeRows, Block, block, readRows}
 
 -- a line in a row's place
 unfoldable pub rowLine : List ℕ → RowLine

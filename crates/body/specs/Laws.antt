@@ -1,5 +1,4 @@
 pub mod Rows
-pub mod Remarks
 pub mod Size
 pub mod Parts
 pub mod Held

@@ -1,6 +1,5 @@
 -- Definitions first; what is proved of them is under Laws.
 pub mod Rows
-pub mod Remarks
 pub mod Held
 pub mod Laws
 pub mod Tables

@@ -59,11 +59,6 @@ unfoldable pub validRows : Rows → Bool
 validRows r = leb 1 (r .count) and leb (r .count) mostRows and eqb (length (r .rows)) mostRows
     and all validRow (rowsOf r) and newRunways [] (rowsOf r) and all isBlankRow (drop (r .count) (r .rows))
 
--- the rows end by `)`, or by an empty line with these lines behind it
-pub data After : Type 0 where
-  finished : After
-  more : List (List ℕ) → After
-
 -- the rows, and what comes after them
 pub record Block : Type 0 where
   pub rows : List Row

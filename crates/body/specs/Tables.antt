@@ -15,9 +15,8 @@ use Rattle.text.specs.Out.{refuse}
 use Rattle.row.specs.declared.Row.{Row}
 use Rattle.row.specs.Row.{blankRow, threeThat, validRow, isBare, isSix, isDry, isShort}
 use Rattle.rowtext.specs.Reading.{readFull, readShort, readWidth, readRow}
-use Rattle.body.specs.Rows.{mostRows, makeRows, more, sameRunway, isAmong, newRunways, latest, readRows}
+use Rattle.body.specs.Rows.{mostRows, makeRows, sameRunway, isAmong, newRunways, latest, readRows}
 use Rattle.body.specs.Rows as Rows
-use Rattle.body.specs.Remarks.{readLanguageLine, readRemarks}
 use Rattle.body.specs.Held.{noRows, rowsAnswer, RowsHeld}
 use Rattle.body.specs.declared.Rows.{Rows}
 use Rattle.body.specs.declared.RowsRead.{RowsRead}
@@ -64,9 +63,6 @@ pub record Answers : Type 0 where
   most : mostRows ≡ 8
   missing : map (λ n. readRows n (dries ∷ []) []) (0 ∷ 8 ∷ []) ≡ refuse 4 ∷ refuse 4 ∷ []
   ninth : readRows 0 (dries ∷ []) (line ∷ []) ≡ refuse 6
-  -- 4 where the awareness line, or that of plain language, is missing
-  no-remarks : readRemarks (more []) ≡ refuse 4
-  no-language : readLanguageLine [] [] ≡ refuse 4
   -- a refused reading is blank
   none : noRows 5 ≡ told 5 (record { count = 0; rows = replicate 8 blankRow }) false 0
   closed-rows : rowsAnswer 0 rows true 31 ≡ told 0 rows true 0
@@ -81,8 +77,6 @@ answers = record {
   most = refl;
   missing = refl;
   ninth = refl;
-  no-remarks = refl;
-  no-language = refl;
   none = refl;
   closed-rows = refl;
   open-rows = refl;

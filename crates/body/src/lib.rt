@@ -1,4 +1,4 @@
-// The rows of a notice; and what stands below them, items and plain language, as a record holds them.
+// The rows of a notice.
 // Lines are read at their place in the message; each writer of a line gets the rest of the buffer.
 
 ghost use mathlib.Core.Path.{_≡_};
@@ -13,7 +13,6 @@ ghost use Rattle.row.specs.Row.{validRow, isBlankRow};
 ghost use Rattle.rowtext.specs.Text.{rowPieces};
 ghost use Rattle.body.specs.Rows.{sameRunway, isAmong, newRunways, latestOf, latest, rowsOf, makeRows, validRows};
 ghost use Rattle.body.specs.Held.{rowLine, noRows, rowsAnswer, RowsHeld};
-use items::Item;
 use row::Row;
 use row::blank_row;
 use row::is_blank_row;
@@ -31,18 +30,6 @@ use fill::told_behind;
 pub struct Rows {
     pub count: u8,
     pub rows: [Row; 8],
-}
-
-// Up to 32 items, zeros past the count.
-pub struct Items {
-    pub count: u8,
-    pub items: [Item; 32],
-}
-
-// Up to 400 bytes of plain language, zeros past the length.
-pub struct Language {
-    pub length: u16,
-    pub bytes: [u8; 400],
 }
 
 // The rows of a message. A refused reading is blank; `)` closed the rows, or what follows them starts at `next`.

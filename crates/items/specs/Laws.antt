@@ -5,3 +5,4 @@ pub mod Order
 pub mod Awareness
 pub mod Language
 pub mod Size
+pub mod Parts

@@ -6,4 +6,5 @@ pub mod Awareness
 pub mod Language
 pub mod Held
 pub mod Tables
+pub mod Parts
 pub mod Laws

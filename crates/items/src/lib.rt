@@ -1,7 +1,7 @@
 // Awareness items and plain language: what a record may hold of them.
 
 ghost use mathlib.Core.Path.{_≡_};
-ghost use Prim.Native.Nat.{_+_, _≤_};
+ghost use Prim.Native.Nat.{_≤_};
 ghost use lib.ListN.{length, take, drop};
 ghost use Rattle.text.specs.Choice.{all, member, headIs};
 ghost use Rattle.text.specs.Names.{isName};
@@ -10,6 +10,7 @@ ghost use Rattle.text.specs.Put.{Put};
 ghost use Rattle.text.specs.Arrays.{slots};
 ghost use Rattle.items.specs.Item.{letters, onRunway, highestRunway, isBetween, runwayFits, amountFits, edgeFits, countFits, validSlot, isNew, slotsFit, taxiwaysFit, nameFits, numbersFit, validItem};
 ghost use Rattle.items.specs.Awareness.{sameRunway, otherApron, mayRepeat, mayFollow, soundItems, isBlank, noNumbers, blankItem, isBlankItem, validItemArray};
+ghost use Rattle.items.specs.Parts.{holdsItems, holdsLanguage};
 ghost use Rattle.items.specs.Language.{validLanguage, validLanguageArray};
 ghost use Rattle.items.specs.Held.{SlotEnd};
 use runway::valid_runway;
@@ -39,6 +40,18 @@ pub struct Item {
     pub taxiways: [u8; 24],
     // R: the apron's name; none is ALL APRON
     pub name: [u8; 16],
+}
+
+// Up to 32 items, zeros past the count.
+pub struct Items {
+    pub count: u8,
+    pub items: [Item; 32],
+}
+
+// Up to 400 bytes of plain language, zeros past the length.
+pub struct Language {
+    pub length: u16,
+    pub bytes: [u8; 400],
 }
 
 pub const MOST_TAXIWAYS: u8 = 8;
@@ -445,7 +458,7 @@ fn blank_rest(items: [Item; 32], n: usize) -> bool
     true
 }
 
-pub fn valid_items(items: [Item; 32], count: u8) -> bool
+fn valid_items(items: [Item; 32], count: u8) -> bool
     ensures { λ r. ⌜ r ≡ validItemArray count items ⌝ }
 {
     if MOST_ITEMS < count {
@@ -456,6 +469,13 @@ pub fn valid_items(items: [Item; 32], count: u8) -> bool
         return blank_rest(items, n);
     }
     false
+}
+
+pub fn holds_items(i: Items) -> bool
+    ensures { λ b. ⌜ b ≡ holdsItems i ⌝ }
+{
+    let items = i.items;
+    valid_items(items, i.count)
 }
 
 // ---- Plain language
@@ -480,7 +500,7 @@ pub fn valid_language(part: &[u8]) -> bool
 }
 
 // The plain language of a record: its first bytes, and zeros past the length.
-pub fn valid_language_bytes(bytes: [u8; 400], length: u16) -> bool
+fn valid_language_bytes(bytes: [u8; 400], length: u16) -> bool
     ensures { λ r. ⌜ r ≡ validLanguageArray length bytes ⌝ }
 {
     let n = length as usize;
@@ -491,6 +511,17 @@ pub fn valid_language_bytes(bytes: [u8; 400], length: u16) -> bool
         return zeros_from(&bytes, n);
     }
     false
+}
+
+// No plain language, or plain language that is valid; zeros past the length.
+pub fn holds_language(l: Language) -> bool
+    ensures { λ b. ⌜ b ≡ holdsLanguage l ⌝ }
+{
+    let bytes = l.bytes;
+    if l.length == 0 {
+        return zeros_from(&bytes, 0);
+    }
+    valid_language_bytes(bytes, l.length)
 }
 
 // Puts the first `length` bytes.

@@ -13,12 +13,12 @@ use Rattle.text.specs.Lines.{lines, longest}
 use Rattle.text.specs.Laws.Held.{part-all}
 use Rattle.body.specs.declared.Rows.{Rows}
 use Rattle.body.specs.declared.RowsRead.{RowsRead}
-use Rattle.text.specs.Out.{Out, refuse, taken, next}
-use Rattle.body.specs.Rows.{rowsOf, makeRows, After, finished, more}
-use Rattle.body.specs.Remarks.{Remarks, readRemarks}
+use Rattle.text.specs.Out.{Out, refuse, taken, next, After, finished, more}
+use Rattle.body.specs.Rows.{rowsOf, makeRows}
+use Rattle.remarks.specs.Remarks.{Remarks, readRemarks}
 use Rattle.body.specs.Held.{RowsHeld}
 use Rattle.text.specs.Laws.Out.{Numbered}
-use Rattle.body.specs.Laws.Remarks.{remarks-numbered}
+use Rattle.remarks.specs.Laws.Remarks.{remarks-numbered}
 use Rattle.front.specs.declared.Front.{Front}
 use Rattle.front.specs.declared.FrontRead.{FrontRead}
 use Rattle.notice.specs.declared.Record.{Record}

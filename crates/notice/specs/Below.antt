@@ -5,7 +5,7 @@ use lib.Dec.{eqb}
 use Rattle.text.specs.Choice.{pick}
 use Rattle.body.specs.declared.Rows.{Rows}
 use Rattle.body.specs.Rows.{mostRows, rowsOf, readRows}
-use Rattle.body.specs.Remarks.{readRemarks}
+use Rattle.remarks.specs.Remarks.{readRemarks}
 use Rattle.remarks.specs.declared.RemarksRead.{RemarksRead}
 use Rattle.front.specs.declared.Front.{Front}
 use Rattle.notice.specs.declared.Record.{Record}

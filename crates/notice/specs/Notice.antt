@@ -8,7 +8,8 @@ use Rattle.heading.specs.Addresses.{addressesPieces}
 use Rattle.heading.specs.Filing.{filingPieces}
 use Rattle.heading.specs.Heading.{headingPieces, serialPieces, aerodromePieces}
 use Rattle.body.specs.Rows.{rowsOf, latest}
-use Rattle.body.specs.Remarks.{itemsOf, languageOf, remarkLines}
+use Rattle.items.specs.Parts.{itemsOf, languageOf}
+use Rattle.remarks.specs.Remarks.{remarkLines}
 use Rattle.notice.specs.declared.Record.{Record}
 
 -- lines 1 to 5, the rows, and what stands below them

@@ -11,7 +11,7 @@ use Rattle.heading.specs.Filing.{readFiling}
 use Rattle.heading.specs.Heading.{Heading, readHeading, readSerialLine, readAerodrome}
 use Rattle.text.specs.Out.{Out, refuse, taken, next, line}
 use Rattle.body.specs.Rows.{mostRows, latest, readRows}
-use Rattle.body.specs.Remarks.{readRemarks}
+use Rattle.remarks.specs.Remarks.{readRemarks}
 use Rattle.notice.specs.declared.Record.{Record}
 use Rattle.notice.specs.declared.Reading.{Reading}
 use Rattle.notice.specs.Record.{makeRecord, blankRecord}

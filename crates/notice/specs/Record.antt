@@ -11,7 +11,8 @@ use Rattle.heading.specs.Filing.{validFiling}
 use Rattle.heading.specs.Heading.{validTitle}
 use Rattle.heading.specs.Answers.{blankAddresses, blankFiling, blankTitle}
 use Rattle.body.specs.Rows.{makeRows, validRows}
-use Rattle.body.specs.Remarks.{Remarks, makeItems, makeLanguage, holdsItems, holdsLanguage}
+use Rattle.remarks.specs.Remarks.{Remarks}
+use Rattle.items.specs.Parts.{makeItems, makeLanguage, holdsItems, holdsLanguage}
 use Rattle.notice.specs.declared.Record.{Record}
 
 -- every part valid, zeros past each count and in every field that is not used

@@ -1,48 +1,23 @@
 -- What stands below the rows: one law for each case of the code.
-use Prim.Native.Nat.{ℕ, zero, suc, _+_, _<_, _≤_}
-use mathlib.Core.Path.{_≡_, refl, _∙_}
+use Prim.Native.Nat.{ℕ, _+_, _<_, _≤_}
+use mathlib.Core.Path.{_≡_, _∙_}
 use mathlib.Core.List.{List, [], _∷_, _++_, append-nil}
 use mathlib.Core.Bool.{true, false}
-use native.Mathlib.Omega.{arith}
 use lib.Dec.{eqb}
-use lib.ListN.{length, take, drop, replicate, length-take}
+use lib.ListN.{length, replicate}
 use lib.Seq.{sets}
-use borrow.Author.Tests.{eq-eqb, ne-eqb, le-leb}
-use Rattle.text.specs.Choice.{_and_, all, isEmpty}
-use Rattle.text.specs.Arrays.{isZero}
+use Rattle.text.specs.Choice.{_and_, isEmpty}
 use Rattle.text.specs.Piece.{canonical, verbatim}
 use Rattle.text.specs.Lines.{under}
 use Rattle.text.specs.Put.{Put, told}
 use Rattle.text.specs.Laws.Base.{true-false}
 use Rattle.items.specs.declared.Item.{Item}
-use Rattle.items.specs.Awareness.{mostItems, validItems, awarenessPieces, validItemArray}
-use Rattle.items.specs.Language.{mostLanguage, validLanguageArray}
-use Rattle.body.specs.declared.Items.{Items}
-use Rattle.body.specs.declared.Language.{Language}
-use Rattle.body.specs.Remarks.{itemsOf, languageOf, makeLanguage, holdsItems, noneOrLanguage, holdsLanguage, languageLines, remarkLines}
+use Rattle.items.specs.Awareness.{awarenessPieces}
+use Rattle.items.specs.declared.Items.{Items}
+use Rattle.items.specs.declared.Language.{Language}
+use Rattle.items.specs.Parts.{itemsOf, languageOf, makeLanguage}
+use Rattle.remarks.specs.Remarks.{languageLines, remarkLines}
 use Rattle.text.specs.Laws.Put.{over-zeros, nothing-put}
-
--- the first n of an array are none exactly if n is 0
-pub none-taken : {A : Type 0} (n : ℕ) (l : List A) → 0 < length l → isEmpty (take n l) ≡ eqb n 0
-none-taken n [] h = absurd (omega arith)
-none-taken zero (a ∷ l) h = refl
-none-taken (suc n) (a ∷ l) h = rw (ne-eqb (suc n) 0 (omega arith))
-
--- the arrays of a record hold what the tests of their items and bytes say
-pub items-array : (i : Items) → length (i .items) ≡ mostItems → validItemArray (i .count) (i .items) ≡ holdsItems i
-unfolding validItemArray holdsItems validItems _and_
-items-array i l =
-    let f : length (take (i .count) (i .items)) ≤ mostItems = rw length-take (omega arith) in
-    rw (eq-eqb (length (i .items)) mostItems l, le-leb (length (take (i .count) (i .items))) mostItems f)
-
-module _ (l : Language) (e : length (l .bytes) ≡ mostLanguage) where
-  pub no-language : l .length ≡ 0 → all isZero (drop 0 (l .bytes)) ≡ holdsLanguage l
-  unfolding holdsLanguage noneOrLanguage _and_
-  no-language z = rw (z, eq-eqb (length (l .bytes)) mostLanguage e)
-
-  pub language-array : (l .length ≡ 0 → ⊥) → validLanguageArray (l .length) (l .bytes) ≡ holdsLanguage l
-  unfolding validLanguageArray holdsLanguage noneOrLanguage _and_
-  language-array z = rw (eq-eqb (length (l .bytes)) mostLanguage e, none-taken (l .length) (l .bytes) (omega arith), ne-eqb (l .length) 0 z)
 
 -- plain language that was put over zeros
 pub language-put-in : (l b : List ℕ) → length l ≤ 400 → b ≡ sets (replicate 400 0) 0 l → record { length = length l; bytes = b } ≡ makeLanguage l

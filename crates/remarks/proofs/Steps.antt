@@ -22,10 +22,10 @@ use Rattle.items.specs.Language.{validLanguage, wholeLanguage}
 use Rattle.items.specs.Laws.Language.{language-short}
 use Rattle.awareness.specs.declared.ItemsRead.{ItemsRead}
 use Rattle.awareness.specs.Held.{itemsAnswer}
-use Rattle.body.specs.declared.Language.{Language}
-use Rattle.text.specs.Out.{refuse, fit, atEnd}
-use Rattle.body.specs.Rows.{more}
-use Rattle.body.specs.Remarks.{makeLanguage, remarks, readLanguageLine, readRemarks}
+use Rattle.items.specs.declared.Language.{Language}
+use Rattle.text.specs.Out.{refuse, fit, atEnd, more}
+use Rattle.items.specs.Parts.{makeLanguage}
+use Rattle.remarks.specs.Remarks.{remarks, readLanguageLine, readRemarks}
 use Rattle.remarks.specs.declared.RemarksRead.{RemarksRead}
 use Rattle.remarks.specs.declared.Tail.{Tail}
 use Rattle.remarks.specs.Held.{noRemarks, remarksAnswer, noTail, ending, lastItems, lastLanguage, nextLanguage, itemsStep, joined}

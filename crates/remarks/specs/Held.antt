@@ -9,7 +9,8 @@ use Rattle.text.specs.Lines.{lineSize, lineStep, closed, opened}
 use Rattle.items.specs.Language.{validLanguage}
 use Rattle.awareness.specs.declared.ItemsRead.{ItemsRead}
 use Rattle.text.specs.Out.{Out, refuse, taken}
-use Rattle.body.specs.Remarks.{Remarks, makeItems, makeLanguage}
+use Rattle.remarks.specs.Remarks.{Remarks}
+use Rattle.items.specs.Parts.{makeItems, makeLanguage}
 use Rattle.remarks.specs.declared.RemarksRead.{RemarksRead}
 use Rattle.remarks.specs.declared.Tail.{Tail}
 

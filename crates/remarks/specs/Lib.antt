@@ -1,3 +1,5 @@
--- What the promises cite; the values are pinned in Tables.
+-- What stands below the rows; what the promises cite besides; what is proved; answers that the checker evaluates.
+pub mod Remarks
 pub mod Held
+pub mod Laws
 pub mod Tables

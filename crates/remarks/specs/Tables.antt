@@ -12,7 +12,7 @@ use Rattle.text.specs.Out.{refuse, taken}
 use Rattle.items.specs.Item.{letterJ}
 use Rattle.items.specs.ReadItem.{bareItem}
 use Rattle.items.specs.Language.{lastIs, validLanguage}
-use Rattle.body.specs.Remarks.{remarks}
+use Rattle.remarks.specs.Remarks.{remarks}
 use Rattle.remarks.specs.declared.Tail.{Tail}
 use Rattle.remarks.specs.Held.{noRemarks, remarksAnswer, noTail, ending, lastItems, lastLanguage, nextLanguage, itemsStep, joined}
 
@@ -23,6 +23,9 @@ pub record Answers : Type 0 where
   no-remarks : noRemarks 8 ≡ record { refusal = 8; items = record { count = 0; items = replicate 32 (bareItem 0) }; language = record { length = 0; bytes = replicate 400 0 } }
   refused : remarksAnswer (refuse 9) ≡ noRemarks 9
   read : remarksAnswer (taken (remarks (bareItem letterJ ∷ []) (bytes "A."))) ≡ record { refusal = 0; items = record { count = 1; items = bareItem letterJ ∷ replicate 31 (bareItem 0) }; language = record { length = 2; bytes = bytes "A." ++ replicate 398 0 } }
+  -- 4 where the awareness line, or that of plain language, is missing
+  no-items : readRemarks (more []) ≡ refuse 4
+  no-language : readLanguageLine [] [] ≡ refuse 4
   no-tail : noTail 4 ≡ record { refusal = 4; size = 0 }
   -- "bytes after the end": 4
   ends : map (ending 2) (0 ∷ 1 ∷ 2 ∷ []) ≡ said 2 ∷ noTail 4 ∷ noTail 4 ∷ []
@@ -41,4 +44,4 @@ pub record Answers : Type 0 where
 
 pub answers : Answers
 unfolding _and_ isMark endSize lineSize lineStep closed front lastIs validLanguage ending lastItems lastLanguage nextLanguage itemsStep joined
-answers = record { no-remarks = refl; refused = refl; read = refl; no-tail = refl; ends = refl; empty = refl; last = refl; languages = refl; behind = refl; steps = refl; last-step = refl; together = refl; apart = refl }
+answers = record { no-remarks = refl; refused = refl; read = refl; no-items = refl; no-language = refl; no-tail = refl; ends = refl; empty = refl; last = refl; languages = refl; behind = refl; steps = refl; last-step = refl; together = refl; apart = refl }

@@ -8,42 +8,22 @@ ghost use Rattle.text.specs.Piece.{canonical, verbatim};
 ghost use Rattle.text.specs.Lines.{lines, opened, under};
 ghost use Rattle.text.specs.Put.{Put};
 ghost use Rattle.items.specs.Awareness.{awarenessPieces};
-ghost use Rattle.body.specs.Rows.{finished, more};
-ghost use Rattle.body.specs.Remarks.{itemsOf, languageOf, holdsItems, makeLanguage, holdsLanguage, languageLines, remarkLines, readRemarks};
+ghost use Rattle.text.specs.Out.{finished, more};
+ghost use Rattle.items.specs.Parts.{itemsOf, languageOf, makeLanguage};
+ghost use Rattle.remarks.specs.Remarks.{languageLines, remarkLines, readRemarks};
 ghost use Rattle.remarks.specs.Held.{noRemarks, remarksAnswer, noTail, ending, lastItems, lastLanguage, nextLanguage, itemsStep};
 use awareness::read_awareness;
-use body::Items;
-use body::Language;
+use items::Items;
+use items::Language;
 use items::blank_item;
 use items::put_language;
-use items::valid_items;
 use items::valid_language;
-use items::valid_language_bytes;
 use text::first_line;
 use text::is_closed;
 use text::place;
 use fill::put;
 use fill::told_behind;
-use scan::zeros_from;
 use wording::put_awareness;
-
-pub fn holds_items(i: Items) -> bool
-    ensures { λ b. ⌜ b ≡ holdsItems i ⌝ }
-{
-    let items = i.items;
-    valid_items(items, i.count)
-}
-
-// No plain language, or plain language that is valid; zeros past the length.
-pub fn holds_language(l: Language) -> bool
-    ensures { λ b. ⌜ b ≡ holdsLanguage l ⌝ }
-{
-    let bytes = l.bytes;
-    if l.length == 0 {
-        return zeros_from(&bytes, 0);
-    }
-    valid_language_bytes(bytes, l.length)
-}
 
 // Neither items nor plain language.
 fn says_nothing(items: Items, language: Language) -> bool

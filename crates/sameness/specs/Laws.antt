@@ -13,11 +13,12 @@ use Rattle.heading.specs.declared.Addresses.{Addresses}
 use Rattle.heading.specs.declared.Filing.{Filing}
 use Rattle.heading.specs.declared.Title.{Title}
 use Rattle.body.specs.declared.Rows.{Rows}
-use Rattle.body.specs.declared.Items.{Items}
-use Rattle.body.specs.declared.Language.{Language}
+use Rattle.items.specs.declared.Items.{Items}
+use Rattle.items.specs.declared.Language.{Language}
 use Rattle.body.specs.Rows.{rowsOf, makeRows, validRows}
-use Rattle.body.specs.Remarks.{itemsOf, makeItems, holdsItems}
-use Rattle.body.specs.Laws.Parts.{rows-made, items-made}
+use Rattle.items.specs.Parts.{itemsOf, makeItems, holdsItems}
+use Rattle.body.specs.Laws.Parts.{rows-made}
+use Rattle.items.specs.Laws.Parts.{items-made}
 use Rattle.sameness.specs.Same.{sameAddresses, sameFiling, sameTitle, sameThird, sameRow, sameRows, sameNumbers, sameItem, sameItems, sameLanguage}
 
 self : (n : ℕ) → eqb n n ≡ true

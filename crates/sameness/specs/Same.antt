@@ -9,10 +9,10 @@ use Rattle.heading.specs.declared.Addresses.{Addresses}
 use Rattle.heading.specs.declared.Filing.{Filing}
 use Rattle.heading.specs.declared.Title.{Title}
 use Rattle.body.specs.declared.Rows.{Rows}
-use Rattle.body.specs.declared.Items.{Items}
-use Rattle.body.specs.declared.Language.{Language}
+use Rattle.items.specs.declared.Items.{Items}
+use Rattle.items.specs.declared.Language.{Language}
 use Rattle.body.specs.Rows.{rowsOf}
-use Rattle.body.specs.Remarks.{itemsOf}
+use Rattle.items.specs.Parts.{itemsOf}
 
 -- line 1
 unfoldable pub sameAddresses : Addresses → Addresses → Bool

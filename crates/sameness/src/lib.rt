@@ -2,8 +2,8 @@
 ghost use mathlib.Core.Path.{_≡_};
 ghost use Rattle.text.specs.Choice.{sameAll};
 ghost use Rattle.sameness.specs.Same.{sameAddresses, sameFiling, sameTitle, sameThird, sameRow, sameRows, sameNumbers, sameItem, sameItems, sameLanguage};
-use body::Items;
-use body::Language;
+use items::Items;
+use items::Language;
 use body::MOST_ROWS;
 use body::Rows;
 use heading::Addresses;

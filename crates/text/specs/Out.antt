@@ -27,3 +27,8 @@ line n f (l ∷ ls) k = fit n (whole (f l)) (λ a. k a ls)
 abbrev pub atEnd : {A : Type 0} → List (List ℕ) → A → Out A
 atEnd [] a = taken a
 atEnd (l ∷ ls) a = refuse 4
+
+-- the rows end by `)`, or by an empty line with these lines behind it
+pub data After : Type 0 where
+  finished : After
+  more : List (List ℕ) → After

@@ -11,8 +11,8 @@ use Rattle.text.specs.Choice.{pick}
 use Rattle.text.specs.Lines.{lines, linesSize}
 use Rattle.body.specs.declared.Rows.{Rows}
 use Rattle.body.specs.declared.RowsRead.{RowsRead}
-use Rattle.text.specs.Out.{refuse, taken}
-use Rattle.body.specs.Rows.{mostRows, rowsOf, makeRows, finished, more, Block, block, readRows}
+use Rattle.text.specs.Out.{refuse, taken, finished, more}
+use Rattle.body.specs.Rows.{mostRows, rowsOf, makeRows, Block, block, readRows}
 use Rattle.body.specs.Held.{noRows, RowsHeld}
 use Rattle.text.specs.Laws.Out.{no-refuse, took}
 

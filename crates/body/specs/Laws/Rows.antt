@@ -8,32 +8,20 @@ use lib.ListN.{length}
 use borrow.Author.Tests.{not-true}
 use native.Mathlib.Omega.{arith}
 use Rattle.text.specs.Choice.{pick, all, isEmpty}
-use Rattle.text.specs.Piece.{Piece, Typed, Typing, done}
-use Rattle.text.specs.Read.{Got, got}
+use Rattle.text.specs.Piece.{Piece, Typing, done}
+use Rattle.text.specs.Read.{got}
 use Rattle.text.specs.Numbers.{isDigit}
-use Rattle.text.specs.Lines.{closed, front, opened}
-use Rattle.text.specs.Laws.Base.{Laws, Head, true-false, and-1, and-2, and-i}
-use Rattle.text.specs.Laws.Lines.{Tells, whole-sound, whole-complete, final, next as and-next, typed-clean, closed-on, closed-off, closed-is}
+use Rattle.text.specs.Lines.{closed, opened}
+use Rattle.text.specs.Laws.Base.{Head, true-false, and-1, and-2, and-i}
+use Rattle.text.specs.Laws.Lines.{Tells, whole-sound, whole-complete, next as and-next}
 use Rattle.row.specs.declared.Row.{Row}
 use Rattle.row.specs.Row.{validRow}
 use Rattle.rowtext.specs.Text.{rowPieces}
 use Rattle.rowtext.specs.Reading.{wholeRow}
 use Rattle.rowtext.specs.Laws.Row.{row-laws}
-use Rattle.text.specs.Out.{refuse, taken, fit, atEnd}
-use Rattle.body.specs.Rows.{isAmong, newRunways, After, finished, more, Block, block, readRows}
+use Rattle.text.specs.Out.{refuse, taken, fit, atEnd, After, finished, more}
+use Rattle.body.specs.Rows.{isAmong, newRunways, Block, block, readRows}
 use Rattle.text.specs.Laws.Out.{no-refuse, took, fit-took, end-took, Numbered, fit-numbered, pick-numbered, end-numbered}
-
--- what comes behind the rows
-abbrev pub Follows : After → List (List Piece) → Type 0
-Follows finished pss = pss ≡ []
-Follows (more ls) pss = (qss : List (List Piece)) × (pss ≡ [] ∷ qss) × Tells qss ls
-
--- a closed line is told by its text, and so is an open one
-pub closed-tells : {ps : List Piece} (l : List ℕ) {ls : List (List ℕ)} → closed l ≡ true → ls ≡ [] → Typing ps (opened l) → Tells (ps ∷ []) (l ∷ ls)
-closed-tells {ps} l q e t = rw e (final (closed-is l q) (subst (λ b. Typed ps (pick b (front l) l) []) q t))
-
-pub open-tells : {ps : List Piece} {pss : List (List Piece)} (l : List ℕ) {ls : List (List ℕ)} → closed l ≡ false → Typing ps (opened l) → Tells pss ls → Tells (ps ∷ pss) (l ∷ ls)
-open-tells {ps} l q t u = and-next (subst (λ b. Typed ps (pick b (front l) l) []) q t) u
 
 -- the rows that were read behind those seen
 pub record Read (n : ℕ) (seen : List Row) (ls : List (List ℕ)) (b : Block) : Type 0 where
@@ -95,24 +83,6 @@ rows-sound (suc n) seen ((x ∷ l) ∷ ls) {b} e =
           tells = λ pss h. open-tells (x ∷ l) q t (y .tells pss h);
         }
 
--- the other way: a told line is the last, or another follows
-pub data Told (ps : List Piece) (tail : List (List Piece)) (ls : List (List ℕ)) : Type 0 where
-  last-line : (l k : List ℕ) → tail ≡ [] → ls ≡ k ∷ [] → k ≡ l ++ (41 ∷ []) → Typing ps l → Told ps tail ls
-  one-line : (l : List ℕ) (ls′ : List (List ℕ)) → ls ≡ l ∷ ls′ → Typing ps l → Tells tail ls′ → Told ps tail ls
-
-pub told : {ps : List Piece} {tail : List (List Piece)} {ls : List (List ℕ)} → Tells (ps ∷ tail) ls → Told ps tail ls
-told (final {l = l} {k = k} q t) = last-line l k refl refl q t
-told (and-next {l = l} {ls = ls} t u) = one-line l ls refl t u
-
-pub told-some : {pss : List (List Piece)} {ls : List (List ℕ)} → Tells pss ls → isEmpty pss ≡ false
-told-some (final q t) = refl
-told-some (and-next t u) = refl
-
--- behind the rows stands nothing, or an empty line and another
-pub data Tail : List (List Piece) → Type 0 where
-  nothing : Tail []
-  something : {qs : List Piece} {qss : List (List Piece)} → Tail ([] ∷ qs ∷ qss)
-
 pub record Back (n : ℕ) (seen : List Row) (ls : List (List ℕ)) (rows : List Row) (pss : List (List Piece)) : Type 0 where
   pub after : After
   pub follows : Follows after pss
@@ -131,20 +101,6 @@ head-some p (x ∷ l) h = refl
 
 row-some : (r : Row) {l : List ℕ} → validRow r ≡ true → Typing (rowPieces r) l → isEmpty l ≡ false
 row-some r {l} v t = head-some isDigit l (row-laws .starts r v t refl)
-
-pub append-some : {A : Type 0} (l : List A) (x : A) → isEmpty (l ++ (x ∷ [])) ≡ false
-append-some [] x = refl
-append-some (y ∷ l) x = refl
-
-pub opened-closed : (l k : List ℕ) → k ≡ l ++ (41 ∷ []) → (closed k ≡ true) × (opened k ≡ l)
-opened-closed l k e =
-    let h = closed-on l in
-    let c : closed k ≡ true = ap closed e ∙ h .0 in
-    (c, ap (λ b. pick b (front k) k) c ∙ (ap front e ∙ h .1))
-
-pub opened-open : {A : Type 0} {v : A → Type 0} {lay : A → List Piece} {rd : List ℕ → Got A} {s f : List ℕ → Type 0} → Laws v lay rd s f
-    → (a : A) {l : List ℕ} → v a → Typing (lay a) l → (closed l ≡ false) × (opened l ≡ l)
-opened-open F a {l} w t = let c = closed-off l (typed-clean (F .within a w) t) in (c, ap (λ b. pick b (front l) l) c)
 
 rows-none : (rs : List Row) (pss : List (List Piece)) → map rowPieces rs ++ pss ≡ [] → (rs ≡ []) × (pss ≡ [])
 rows-none [] pss e = (refl, e)

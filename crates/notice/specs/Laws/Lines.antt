@@ -27,10 +27,12 @@ use Rattle.heading.specs.Laws.Filing.{filing-laws}
 use Rattle.heading.specs.Laws.Heading.{heading-laws, serial-line-laws, aerodrome-laws}
 use Rattle.text.specs.Out.{Out, refuse, taken, line}
 use Rattle.body.specs.Rows.{mostRows, latest, readRows}
-use Rattle.body.specs.Remarks.{remarkLines, languageLines, noneOrLanguage, readRemarks}
+use Rattle.remarks.specs.Remarks.{remarkLines, languageLines, readRemarks}
+use Rattle.items.specs.Parts.{noneOrLanguage}
 use Rattle.text.specs.Laws.Out.{no-refuse, took, fit-took, next-took, line-numbered, next-numbered, Numbered}
-use Rattle.body.specs.Laws.Rows.{rows-sound, rows-numbered, Told, last-line, one-line, told, rows-complete}
-use Rattle.body.specs.Laws.Remarks.{remarks-sound, remarks-complete, remarks-tail, remarks-numbered}
+use Rattle.body.specs.Laws.Rows.{rows-sound, rows-numbered, rows-complete}
+use Rattle.text.specs.Laws.Told.{Told, last-line, one-line, told}
+use Rattle.remarks.specs.Laws.Remarks.{remarks-sound, remarks-complete, remarks-tail, remarks-numbered}
 use Rattle.notice.specs.declared.Record.{Record}
 use Rattle.notice.specs.Record.{makeRecord}
 use Rattle.notice.specs.Reading.{mismatch, agreeing, readNotice}

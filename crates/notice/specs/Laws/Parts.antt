@@ -13,8 +13,10 @@ use Rattle.heading.specs.Addresses.{addressesPieces, validAddresses}
 use Rattle.heading.specs.Filing.{filingPieces, validFiling}
 use Rattle.heading.specs.Heading.{Heading, headingPieces, validTitle, validHeading, serialPieces, aerodromePieces}
 use Rattle.body.specs.Rows.{rowsOf, latest}
-use Rattle.body.specs.Remarks.{Remarks, remarks, itemsOf, languageOf, remarkLines, noneOrLanguage}
-use Rattle.body.specs.Laws.Parts.{GoodRows, rows-kept, rows-valid, rows-made, rows-good, latest-real, items-kept, items-held, items-valid, items-made, language-kept, language-held, language-valid, language-made}
+use Rattle.remarks.specs.Remarks.{Remarks, remarks, remarkLines}
+use Rattle.items.specs.Parts.{itemsOf, languageOf, noneOrLanguage}
+use Rattle.body.specs.Laws.Parts.{GoodRows, rows-kept, rows-valid, rows-made, rows-good, latest-real}
+use Rattle.items.specs.Laws.Parts.{items-kept, items-held, items-valid, items-made, language-kept, language-held, language-valid, language-made}
 use Rattle.notice.specs.declared.Record.{Record}
 use Rattle.notice.specs.Record.{makeRecord, validRecord}
 use Rattle.notice.specs.Notice.{noticeLines}

@@ -10,7 +10,8 @@ use Rattle.heading.specs.Heading.{validTitle}
 use Rattle.heading.specs.Laws.Addresses.{addresses-size}
 use Rattle.heading.specs.Laws.Filing.{filing-size}
 use Rattle.heading.specs.Laws.Heading.{heading-size, serial-size, aerodrome-size}
-use Rattle.body.specs.Laws.Size.{rows-size, remarks-size}
+use Rattle.body.specs.Laws.Size.{rows-size}
+use Rattle.remarks.specs.Laws.Size.{remarks-size}
 use Rattle.notice.specs.declared.Record.{Record}
 use Rattle.notice.specs.Record.{validRecord}
 use Rattle.notice.specs.Notice.{noticeLines, notice, noticeText}

@@ -17,7 +17,8 @@ use Rattle.heading.specs.Filing.{filingPieces}
 use Rattle.heading.specs.Heading.{headingPieces, serialPieces, aerodromePieces}
 use Rattle.front.specs.Front.{frontText}
 use Rattle.body.specs.Rows.{rowsOf, latest}
-use Rattle.body.specs.Remarks.{itemsOf, languageOf, remarkLines}
+use Rattle.items.specs.Parts.{itemsOf, languageOf}
+use Rattle.remarks.specs.Remarks.{remarkLines}
 use Rattle.notice.specs.declared.Record.{Record}
 use Rattle.notice.specs.Record.{validRecord}
 use Rattle.notice.specs.Notice.{noticeLines, notice, noticeText}

@@ -3,7 +3,8 @@ use native.Mathlib.Omega.{arith}
 use lib.ListN.{length, take, length-map}
 use borrow.Author.Tests.{ne-eqb}
 use Rattle.text.specs.Laws.Put.{more}
-use Rattle.remarks.proofs.Arrays.{none-taken, no-language-put, language-put}
+use Rattle.remarks.proofs.Arrays.{no-language-put, language-put}
+use Rattle.text.specs.Laws.Arrays.{none-taken}
 use borrow.Author.Needs.{needs}
 use Rattle.remarks.proofs.language_under.Statement.{statement}
 use Rattle.remarks.proofs.language_under.Tie as tie

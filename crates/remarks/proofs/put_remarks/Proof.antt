@@ -1,6 +1,6 @@
 use mathlib.Core.Path.{sym, _∙_}
 use Rattle.text.specs.Laws.Put.{more}
-use Rattle.body.specs.Remarks.{itemsOf, languageOf}
+use Rattle.items.specs.Parts.{itemsOf, languageOf}
 use Rattle.remarks.proofs.Arrays.{no-remarks-put, remarks-put}
 use borrow.Author.Needs.{needs}
 use Rattle.remarks.proofs.put_remarks.Statement.{statement}

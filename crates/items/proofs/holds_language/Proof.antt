@@ -1,9 +1,9 @@
 use mathlib.Core.Path.{_≡_, _∙_}
 use lib.ListN.{length, length-map}
-use Rattle.remarks.proofs.Arrays.{no-language, language-array}
+use Rattle.items.proofs.Arrays.{no-language, language-array}
 use borrow.Author.Needs.{needs}
-use Rattle.remarks.proofs.holds_language.Statement.{statement}
-use Rattle.remarks.proofs.holds_language.Tie as tie
+use Rattle.items.proofs.holds_language.Statement.{statement}
+use Rattle.items.proofs.holds_language.Tie as tie
 
 slice-aggregate-zeros-from : tie.Need-slice-aggregate-zeros-from
 slice-aggregate-zeros-from c = search needs

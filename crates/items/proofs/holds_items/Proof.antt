@@ -1,9 +1,9 @@
 use mathlib.Core.Path.{_≡_, _∙_}
 use lib.ListN.{length, length-map}
-use Rattle.remarks.proofs.Arrays.{items-array}
+use Rattle.items.proofs.Arrays.{items-array}
 use borrow.Author.Needs.{needs}
-use Rattle.remarks.proofs.holds_items.Statement.{statement}
-use Rattle.remarks.proofs.holds_items.Tie as tie
+use Rattle.items.proofs.holds_items.Statement.{statement}
+use Rattle.items.proofs.holds_items.Tie as tie
 
 valid-items-requires : tie.Need-valid-items-requires
 valid-items-requires c κs = search needs

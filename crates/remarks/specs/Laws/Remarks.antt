@@ -17,11 +17,11 @@ use Rattle.items.specs.Awareness.{validItems, soundItems, inOrder, awarenessPie
 use Rattle.items.specs.Language.{validLanguage, wholeLanguage}
 use Rattle.items.specs.Laws.Awareness.{awareness-laws}
 use Rattle.items.specs.Laws.Language.{language-laws}
-use Rattle.text.specs.Out.{refuse, taken, fit, atEnd}
-use Rattle.body.specs.Rows.{After, finished, more}
-use Rattle.body.specs.Remarks.{noneOrLanguage, languageLines, remarkLines, Remarks, remarks, readLanguageLine, readRemarks}
+use Rattle.text.specs.Out.{refuse, taken, fit, atEnd, After, finished, more}
+use Rattle.items.specs.Parts.{noneOrLanguage}
+use Rattle.remarks.specs.Remarks.{languageLines, remarkLines, Remarks, remarks, readLanguageLine, readRemarks}
 use Rattle.text.specs.Laws.Out.{no-refuse, took, fit-took, end-took, Numbered, fit-numbered, pick-numbered, end-numbered}
-use Rattle.body.specs.Laws.Rows.{Follows, closed-tells, open-tells, Told, last-line, one-line, told, told-some, Tail, nothing, something, opened-closed, opened-open}
+use Rattle.text.specs.Laws.Told.{Follows, closed-tells, open-tells, Told, last-line, one-line, told, told-some, Tail, nothing, something, opened-closed, opened-open}
 
 pub record Remarked (after : After) (x : Remarks) : Type 0 where
   pub items : validItems (x .items) ≡ true
