@@ -3,8 +3,10 @@
 
     python3 compare/edits.py definitions|code COUNT SEED
     python3 compare/edits.py every DIR [PART/PARTS]
+    python3 compare/edits.py named [CRATE | CRATE/NAME ...]
+    python3 compare/edits.py fits
 
-An edit changes one numeral by one, one comparison, one truth value, one sign, one letter of a text or one number of a list of bytes.
+In the first two forms an edit changes one numeral by one, one comparison, one truth value, one sign, one letter of a text or one number of a list of bytes.
 
 The first form tries COUNT random ones, at most one at each place. Run it in a copy of the tree, since it edits files in place and
 puts them back. The tree has to prove as it stands, else every edit would seem to be refused: `rt check` is run first.
@@ -14,9 +16,19 @@ The second form tries every edit of every definition, a numeral both ways and a 
 tables alone: it writes the tree without its functions and their proofs to DIR, which must be new, checks that, and edits it there. So it is told
 whether a law or a table refuses an edit, whatever the code would say. PART/PARTS, as 1/2 and 2/2, tries a share of them, for several at a time.
 
-A row of a table is printed for each: the place, the edit, and where it was refused with the first error; an edit that no crate
-refuses is called KEPT, and the status is then 1.
+The third form tries the edits that are written down as compare/edits/CRATE/NAME.edit, all of them or those of the crates and names given. Such a
+file is written as those of crates/CRATE/must-fail/ are: a comment, then a `file:` of src/ or specs/ and pairs of `old:` and `new:` for it, once or
+several times. Run it in a copy of the tree, too; `rt check` of their crates is run first. An edit is tried on its own crate alone.
+
+The fourth form proves nothing: it only looks whether the `old:` texts of every such file, and of those in crates/*/must-fail/, stand exactly once in their files.
+
+A row of a table is printed for each edit that is tried: the place or the name, the edit or its comment, and where it was refused with the first error. Refused
+means that the check ended with status 1 and the prover's `logic=not-proved`; a random edit of code may be refused by the compiler as well, and its row
+says so. An edit that no crate refuses is called KEPT, one that does not fit its files or does not reach the prover UNFIT, a check
+that ended otherwise NO VERDICT, and the status is then 1.
 """
+import contextlib
+import enum
 import pathlib
 import random
 import re
@@ -25,6 +37,7 @@ import subprocess
 import sys
 
 ROOT = pathlib.Path(__file__).resolve().parent.parent
+NAMED = ROOT / "compare" / "edits"
 # What stands apart from the definitions in specs/: laws, and what the checker evaluates.
 APART = {"Laws", "Theorems", "Tables", "Edges", "Pins", "Examples", "Lib"}
 SWAPS = {"eqb": "ltb", "leb": "ltb", "ltb": "leb", "true": "false", "false": "true", "<": "<=", "<=": "<", "==": "!=",
@@ -33,6 +46,18 @@ IN_DEFINITIONS = re.compile(r'"(?P<text>[^"]*)"|(?<![\w₀-₉.])(?<!Type )(?P<n
 IN_CODE = re.compile(r'"(?P<text>[^"]*)"|b\'(?P<byte>[^\\])\'|(?<![\w.])(?P<number>\d+)(?!\w)|(?<= )(?P<word><=|<|==|!=|\+|true|false)(?=[ ;,])')
 # Where a word that an edit brings in comes from, so that the edit is refused for what it says and not for a name that is not in scope.
 HOMES = {"leb": "lib.Dec", "ltb": "lib.Dec", "true": "mathlib.Core.Bool", "false": "mathlib.Core.Bool"}
+
+
+class End(enum.Enum):
+    """How a check ends."""
+    PROVED = enum.auto()
+    NOT_PROVED = enum.auto()
+    NOT_COMPILED = enum.auto()
+    NO_VERDICT = enum.auto()
+
+
+class Unfit(Exception):
+    """Why a written edit does not fit the files that it names."""
 
 
 def crates(root):
@@ -89,50 +114,85 @@ def changes(match):
     return ['"' + value[:i] + ("X" if value[i] != "X" else "Y") + value[i + 1:] + '"' for i in letters]
 
 
-def try_crate(root, crate):
-    """None where the crate still proves, else the first error: that of a table before that of a law, and that before that of a function's proof."""
-    ran = subprocess.run(["rt", "dev", crate], cwd=root, capture_output=True, text=True)
-    if ran.returncode == 0:
-        return None
-    lines = (ran.stdout + ran.stderr).splitlines()
+def first_error(lines):
+    """The first error that a check printed: that of a table before that of a law, and that before that of a function's proof."""
     errors = [re.sub(r"^.*?/crates/", "", line) for line in lines if "error" in line]
     evaluated = [error for error in errors if re.match(r"\w+/specs/(Tables|Edges|Pins|Examples)\b", error)]
     stated = [error for error in errors if re.match(r"\w+/specs/", error)]
-    return (evaluated or stated or errors or lines or ["no word"])[0]
+    return (evaluated or stated or errors or lines[-1:] or ["no word"])[0]
+
+
+def checked(root, crate):
+    """How a check of the crate ends, with its first error; the compiler's stands in a file of code, and the prover then says nothing."""
+    ran = subprocess.run(["rt", "dev", crate], cwd=root, capture_output=True, text=True)
+    lines = (ran.stdout + ran.stderr).splitlines()
+    error = first_error(lines)
+    if ran.returncode == 0:
+        return End.PROVED, ""
+    if ran.returncode == 1 and any(line.startswith("logic=not-proved") for line in lines):
+        return End.NOT_PROVED, error
+    if ran.returncode == 1 and re.match(r"\w+/src/\S+\.rt:\d+:\d+: error", error):
+        return End.NOT_COMPILED, error
+    return End.NO_VERDICT, f"status {ran.returncode}, {error}"
+
+
+def judged(end, error, compiler_counts):
+    """Whether an edit is refused by a check that ended so, and what its row says of it."""
+    match end:
+        case End.PROVED:
+            return False, "KEPT"
+        case End.NOT_PROVED:
+            return True, error
+        case End.NOT_COMPILED if compiler_counts:
+            return True, f"by the compiler: {error}"
+        case End.NOT_COMPILED:
+            return False, f"UNFIT: it does not reach the prover: {error}"
+        case End.NO_VERDICT:
+            return False, f"NO VERDICT: {error}"
 
 
 def refusal(root, crate):
-    """Where the edit is refused: the crate itself, or one above it, which sees its definitions and, of code, its constants."""
+    """Where the edit fails and how: the crate itself, or one above it, which sees its definitions and, of code, its constants."""
     above = [name for name, uses in crates(root).items() if crate in uses]
     for name in [crate] + above:
-        error = try_crate(root, name)
-        if error is not None:
-            return name, error
-    return None, "KEPT"
+        end, error = checked(root, name)
+        if end is not End.PROVED:
+            return name, end, error
+    return "-", End.PROVED, ""
+
+
+@contextlib.contextmanager
+def rewritten(texts):
+    """The tree with other texts of some files, which are put back at the end."""
+    before = {path: path.read_text() for path in texts}
+    try:
+        for path, text in texts.items():
+            path.write_text(text)
+        yield
+    finally:
+        for path, text in before.items():
+            path.write_text(text)
 
 
 def tried(root, crate, path, number, match, new):
     """Tries one edit, puts the file back and prints its row; whether it was refused."""
-    before = path.read_text()
-    lines = before.split("\n")
+    lines = path.read_text().split("\n")
     line = lines[number]
     lines[number] = line[:match.start()] + new + line[match.end():]
     if new in HOMES and path.suffix == ".antt":
         home = re.escape(HOMES[new])
         lines = [re.sub(rf"use {home}\.\{{(?!.*\b{new}\b)", f"use {HOMES[new]}.{{{new}, ", x) for x in lines]
-    path.write_text("\n".join(lines))
-    try:
-        name, error = refusal(root, crate)
-    finally:
-        path.write_text(before)
+    with rewritten({path: "\n".join(lines)}):
+        name, end, error = refusal(root, crate)
+    refused, said = judged(end, error, path.suffix == ".rt")
     where = f"{path.relative_to(root / 'crates')}:{number + 1}"
-    print(f"| {where} | `{line.strip()[:70]}` | `{match[0]}` to `{new}` | {name or '-'} | {error[:160]} |".replace("\n", " "), flush=True)
-    return name is not None
+    print(f"| {where} | `{line.strip()[:70]}` | `{match[0]}` to `{new}` | {name} | {said[:160]} |".replace("\n", " "), flush=True)
+    return refused
 
 
-def must_prove(root, what):
-    """Stops where a tree does not prove before any edit."""
-    if subprocess.run(["rt", "check"], cwd=root, stdout=subprocess.DEVNULL).returncode != 0:
+def must_prove(root, what, *names):
+    """Stops where a tree, or the crates named, do not prove before any edit."""
+    if subprocess.run(["rt", "check", *names], cwd=root, stdout=subprocess.DEVNULL).returncode != 0:
         sys.exit(f"{what} does not prove as it stands")
 
 
@@ -183,6 +243,94 @@ def every(root, part, parts):
     return all([tried(root, *edit) for edit in edits[part - 1::parts]])
 
 
+def named_edits():
+    """The edits that are written down beside the gate, each with its crate."""
+    return [(path.parent.name, path) for path in sorted(NAMED.glob("*/*.edit"))]
+
+
+def gate_edits():
+    """The edits that the gate tries, each with its crate."""
+    return [(path.parents[1].name, path) for path in sorted(ROOT.glob("crates/*/must-fail/*.edit"))]
+
+
+def file_of(crate, name):
+    """The file of a crate that a `file:` line names."""
+    path = ROOT / "crates" / crate / name
+    if not name.startswith(("src/", "specs/")) or ".." in path.parts:
+        raise Unfit(f"`{name}` is not under src/ or specs/")
+    if not path.is_file():
+        raise Unfit(f"{crate} has no file `{name}`")
+    return path
+
+
+def replaced(text, old, new, name):
+    """A file's text with the old text of a pair, which has to stand in it once, made the new one."""
+    times = text.count(old) if old else 0
+    if times != 1:
+        raise Unfit(f"`{old.strip()}` stands {times} times in {name}, not once")
+    return text.replace(old, new)
+
+
+def edited(crate, edit):
+    """The texts of the files that a written edit changes; each pair is taken to what the pairs before it left."""
+    texts, name, old = {}, "", ""
+    for line in edit.read_text().split("\n"):
+        if line.startswith("file: "):
+            name = line.removeprefix("file: ")
+        elif line.startswith("old: "):
+            old = line.removeprefix("old: ")
+        elif line.startswith("new:"):
+            path = file_of(crate, name)
+            new = line.removeprefix("new:").removeprefix(" ")
+            texts[path] = replaced(texts.get(path, path.read_text()), old, new, name)
+            old = ""
+    if not texts:
+        raise Unfit("it has no pair of `old:` and `new:`")
+    return texts
+
+
+def comment_of(edit):
+    """What a written edit says of itself."""
+    return " ".join(line.removeprefix("#").strip() for line in edit.read_text().split("\n") if line.startswith("#"))
+
+
+def tried_named(crate, edit):
+    """Tries one named edit on its crate, puts the files back and prints its row; whether the prover refused it."""
+    try:
+        with rewritten(edited(crate, edit)):
+            refused, said = judged(*checked(ROOT, crate), False)
+    except Unfit as why:
+        refused, said = False, f"UNFIT: {why}"
+    print(f"| {crate}/{edit.stem} | {comment_of(edit)} | {said[:160]} |", flush=True)
+    return refused
+
+
+def named(wanted):
+    """The named edits, all or those of the crates and names wanted; whether there are some and all were refused."""
+    edits = [(crate, edit) for crate, edit in named_edits() if not wanted or {crate, f"{crate}/{edit.stem}"} & set(wanted)]
+    unknown = set(wanted) - {crate for crate, _ in edits} - {f"{crate}/{edit.stem}" for crate, edit in edits}
+    if unknown:
+        sys.exit(f"compare/edits/ has no {', '.join(sorted(unknown))}")
+    must_prove(ROOT, "the tree", *sorted({crate for crate, _ in edits}))
+    refused = sum([tried_named(*edit) for edit in edits])
+    print(f"{len(edits)} named edits, {refused} refused")
+    return refused == len(edits) > 0
+
+
+def fits():
+    """Tells every written edit that does not fit its files; whether all do."""
+    edits = named_edits() + gate_edits()
+    unfit = 0
+    for crate, edit in edits:
+        try:
+            edited(crate, edit)
+        except Unfit as why:
+            unfit += 1
+            print(f"{edit.relative_to(ROOT)}: {why}")
+    print(f"{len(edits)} edits, {len(edits) - unfit} fit")
+    return unfit == 0
+
+
 def share_of(text):
     """PART and PARTS of a share."""
     said = re.fullmatch(r"(\d+)/(\d+)", text)
@@ -195,14 +343,18 @@ def share_of(text):
 def main():
     match sys.argv[1:]:
         case ["every", directory]:
-            refused = every(pathlib.Path(directory), 1, 1)
+            passed = every(pathlib.Path(directory), 1, 1)
         case ["every", directory, share]:
-            refused = every(pathlib.Path(directory), *share_of(share))
+            passed = every(pathlib.Path(directory), *share_of(share))
         case ["definitions" | "code" as kind, count, seed] if count.isdecimal() and seed.isdecimal():
-            refused = at_random(kind, int(count), int(seed))
+            passed = at_random(kind, int(count), int(seed))
+        case ["named", *wanted]:
+            passed = named(wanted)
+        case ["fits"]:
+            passed = fits()
         case _:
             sys.exit(__doc__)
-    return 0 if refused else 1
+    return 0 if passed else 1
 
 
 if __name__ == "__main__":

@@ -4,33 +4,16 @@ use mathlib.Core.Path.{_≡_, refl, sym, _∙_, ap}
 use mathlib.Core.List.{List, [], _∷_}
 use mathlib.Core.Bool.{Bool, true, false}
 use lib.Dec.{ltb}
-use lib.ListN.{length, take, drop, getD, length-take, drop-of-length-le}
-use lib.Seq.{drop-cons, getD-take}
+use lib.ListN.{length, take, drop, getD, drop-of-length-le}
 use borrow.Author.Tests.{ltb-true, ltb-false, le-leb, eq-eqb}
-use native.Mathlib.Numerals.{add-one}
 use native.Mathlib.Omega.{arith}
 use Rattle.text.specs.Choice.{pick, _and_, all}
+use Rattle.text.specs.Laws.Arrays.{next-place, next-used, none-left}
 use Rattle.row.specs.declared.Row.{Row}
 use Rattle.row.specs.Row.{isBlankRow}
 use Rattle.board.specs.declared.Runway.{Runway}
 use Rattle.board.specs.Board.{places, isAerodrome, blankRunway, isBlankRunway, rises, rising, validList, names, fitsPlace, fitPlaces}
 use Rattle.board.specs.Report.{placeOf}
-
--- what is left from place i, of all and of the first n
-module _ {A : Type 0} (d : A) (l : List A) (i : ℕ) where
-  pub next-place : i < length l → drop i l ≡ getD l i d ∷ drop (i + 1) l
-  next-place h = rw add-one (drop-cons l i d h)
-
-  next-used : (n : ℕ) → i < length l → i < n → drop i (take n l) ≡ getD l i d ∷ drop (i + 1) (take n l)
-  next-used n f h =
-      let k : i < length (take n l) = rw length-take (omega arith) in
-      rw add-one (drop-cons (take n l) i d k) ∙ ap (λ a. a ∷ drop (i + 1) (take n l)) (getD-take n l i d h)
-
-none-used : {A : Type 0} (l : List A) (i n : ℕ) → n ≤ i → drop i (take n l) ≡ []
-none-used l i n h = let k : length (take n l) ≤ i = rw length-take (omega arith) in drop-of-length-le (take n l) k
-
-none-left : {A : Type 0} (l : List A) (i n : ℕ) → length l ≤ i → drop i (take n l) ≡ []
-none-left l i n h = let k : length (take n l) ≤ i = rw length-take (omega arith) in drop-of-length-le (take n l) k
 
 -- the first n runways of ws, looked at one by one
 module _ (n : ℕ) (ws : List Runway) (i : ℕ) where
@@ -42,36 +25,36 @@ module _ (n : ℕ) (ws : List Runway) (i : ℕ) where
 
   pub rise-past : (v : Runway) → n ≤ i → true ≡ rising v left
   unfolding rising
-  rise-past v h = rw (none-used ws i n h)
+  rise-past v h = rw (none-left ws n i (omega arith))
 
   pub rise-end : (v : Runway) → length ws ≤ i → true ≡ rising v left
   unfolding rising
-  rise-end v h = rw (none-left ws i n h)
+  rise-end v h = rw (none-left ws n i (omega arith))
 
   pub place-past : (r : Row) → n ≤ i → placeOf r left ≡ 0
   unfolding placeOf
-  place-past r h = rw (none-used ws i n h)
+  place-past r h = rw (none-left ws n i (omega arith))
 
   pub place-end : (r : Row) → length ws ≤ i → placeOf r left ≡ 0
   unfolding placeOf
-  place-end r h = rw (none-left ws i n h)
+  place-end r h = rw (none-left ws n i (omega arith))
 
   module _ (f : i < length ws) (h : i < n) where
     pub rise-on : (v : Runway) → rises v here ≡ true → rising v left ≡ rising here (drop (i + 1) (take n ws))
     unfolding rising _and_
-    rise-on v e = ap (rising v) (next-used blankRunway ws i n f h) ∙ rw e
+    rise-on v e = ap (rising v) (next-used blankRunway ws i n h f) ∙ rw e
 
     pub rise-off : (v : Runway) → rises v here ≡ false → false ≡ rising v left
     unfolding rising _and_
-    rise-off v e = sym (ap (rising v) (next-used blankRunway ws i n f h) ∙ rw e)
+    rise-off v e = sym (ap (rising v) (next-used blankRunway ws i n h f) ∙ rw e)
 
     pub place-hit : (r : Row) → names r here ≡ true → placeOf r left ≡ 0
     unfolding placeOf
-    place-hit r e = ap (placeOf r) (next-used blankRunway ws i n f h) ∙ rw e
+    place-hit r e = ap (placeOf r) (next-used blankRunway ws i n h f) ∙ rw e
 
     pub place-miss : (r : Row) → names r here ≡ false → placeOf r left ≡ suc (placeOf r (drop (i + 1) (take n ws)))
     unfolding placeOf
-    place-miss r e = ap (placeOf r) (next-used blankRunway ws i n f h) ∙ rw e
+    place-miss r e = ap (placeOf r) (next-used blankRunway ws i n h f) ∙ rw e
 
 -- zeros from a place on
 module _ {A : Type 0} (p : A → Bool) (d : A) (l : List A) (i : ℕ) where
@@ -97,11 +80,11 @@ module _ (n : ℕ) (ws : List Runway) (rs : List Row) (i : ℕ) (d : Row) where
     where
       go : (t : Bool) → ltb i n ≡ t → fitPlaces (drop i (take n ws)) (getD rs i d ∷ drop (i + 1) rs)
           ≡ (pick t (fitsPlace (getD ws i blankRunway) (getD rs i d)) (isBlankRow (getD rs i d)) and fitPlaces (drop (i + 1) (take n ws)) (drop (i + 1) rs))
-      go true e = let k = ltb-true i n e in ap (λ l. fitPlaces l (getD rs i d ∷ drop (i + 1) rs)) (next-used blankRunway ws i n f k)
+      go true e = let k = ltb-true i n e in ap (λ l. fitPlaces l (getD rs i d ∷ drop (i + 1) rs)) (next-used blankRunway ws i n k f)
       go false e =
           let k = ltb-false i n e in
-          ap (λ l. fitPlaces l (getD rs i d ∷ drop (i + 1) rs)) (none-used ws i n k)
-          ∙ ap (λ l. isBlankRow (getD rs i d) and fitPlaces l (drop (i + 1) rs)) (sym (none-used ws (i + 1) n (omega arith)))
+          ap (λ l. fitPlaces l (getD rs i d ∷ drop (i + 1) rs)) (none-left ws n i (omega arith))
+          ∙ ap (λ l. isBlankRow (getD rs i d) and fitPlaces l (drop (i + 1) rs)) (sym (none-left ws n (i + 1) (omega arith)))
 
   pub fit-on : i < length ws → i < length rs → fits ≡ true → fitPlaces (drop i (take n ws)) (drop i rs) ≡ fitPlaces (drop (i + 1) (take n ws)) (drop (i + 1) rs)
   unfolding _and_

@@ -8,8 +8,8 @@ use Rattle.text.specs.Choice.{pick, _and_, all}
 use Rattle.runway.specs.Runway.{validRunway}
 use Rattle.row.specs.declared.Row.{Row}
 use Rattle.row.specs.Row.{highestRunway, validRow, blankRow, isBlankRow}
-use Rattle.heading.specs.Letters.{isLetters}
-use Rattle.heading.specs.Heading.{aerodromeSize}
+use Rattle.frontlines.specs.Letters.{isLetters}
+use Rattle.frontlines.specs.Heading.{aerodromeSize}
 use Rattle.board.specs.declared.Runway.{Runway}
 use Rattle.board.specs.declared.Board.{Board}
 use Rattle.board.specs.declared.Answer.{Answer}

@@ -1,3 +1,4 @@
+pub mod Aerodrome
 pub mod Rules
 pub mod Shows
 pub mod Step

@@ -13,7 +13,7 @@ use Rattle.surface.specs.Descriptions.{isContaminant, isDeep, notReported, dry}
 use Rattle.surface.specs.Third.{third, isBlankThird, isCoverage, validCoverage, leastDepth, isReported, validDepth, validThird}
 use Rattle.row.specs.declared.Row.{Row}
 use Rattle.row.specs.Row.{blankRow, threeThat, isBlankRow, validRow}
-use Rattle.heading.specs.Letters.{isLetters}
+use Rattle.frontlines.specs.Letters.{isLetters}
 use Rattle.board.specs.declared.Runway.{Runway}
 use Rattle.board.specs.declared.Board.{Board}
 use Rattle.board.specs.Board.{places, blankRunway, isBlankRunway, comesBefore, rises, rising, isAerodrome, validList, names, fitsPlace, fitPlaces, validPlaces, validBoard, blankBoard, fresh, answer, opening}

@@ -8,7 +8,7 @@ ghost use Rattle.text.specs.Choice.{pick, all};
 ghost use Rattle.row.specs.Row.{isBlankRow};
 ghost use Rattle.board.specs.Board.{isAerodrome, blankRunway, isBlankRunway, comesBefore, rises, rising, validList, names, fitsPlace, validPlaces, validBoard, blankBoard, opening, refusedOpening};
 ghost use Rattle.board.specs.Report.{placeOf, isNews, report};
-use heading::read_aerodrome;
+use frontlines::read_aerodrome;
 use row::HIGHEST_RUNWAY;
 use row::INVALID_ROW;
 use row::Row;

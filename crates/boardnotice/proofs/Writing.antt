@@ -17,7 +17,7 @@ use Rattle.body.specs.declared.Rows.{Rows}
 use Rattle.items.specs.declared.Items.{Items}
 use Rattle.items.specs.declared.Language.{Language}
 use Rattle.body.specs.Rows.{makeRows}
-use Rattle.notice.specs.declared.Record.{Record}
+use Rattle.record.specs.declared.Record.{Record}
 use Rattle.notice.specs.declared.Written.{Written}
 use Rattle.notice.specs.Writing.{unwritten, writing, written, Wrote}
 use Rattle.board.specs.declared.Board.{Board}
@@ -25,7 +25,7 @@ use Rattle.boardnotice.specs.declared.Details.{Details}
 use Rattle.board.specs.Board.{places, validBoard, wrongBoard}
 use Rattle.boardnotice.specs.Writing.{reported, recordOf, noReport, writingBoard, writtenBoard, WroteBoard}
 use Rattle.boardnotice.specs.Laws.Writing.{few-reported}
-use Rattle.board.proofs.Places.{next-place}
+use Rattle.text.specs.Laws.Arrays.{next-place}
 
 -- c rows are in the array L, and rs come behind them
 abbrev pub rowsOnto : ℕ → List Row → List Row → Rows

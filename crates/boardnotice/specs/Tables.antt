@@ -9,7 +9,7 @@ use Rattle.runway.specs.Runway.{validRunway}
 use Rattle.surface.specs.Descriptions.{isContaminant, isDeep}
 use Rattle.surface.specs.Third.{isBlankThird, isCoverage, validCoverage, leastDepth, isReported, validDepth, validThird}
 use Rattle.row.specs.Row.{blankRow, threeThat, isBlankRow, validRow}
-use Rattle.heading.specs.Letters.{isLetters}
+use Rattle.frontlines.specs.Letters.{isLetters}
 use Rattle.items.specs.declared.Items.{Items}
 use Rattle.items.specs.declared.Language.{Language}
 use Rattle.body.specs.Rows.{makeRows}

@@ -8,10 +8,10 @@ use Rattle.text.specs.Choice.{isEmpty}
 use Rattle.row.specs.declared.Row.{Row}
 use Rattle.items.specs.declared.Items.{Items}
 use Rattle.items.specs.declared.Language.{Language}
-use Rattle.notice.specs.declared.Record.{Record}
+use Rattle.record.specs.declared.Record.{Record}
 use Rattle.notice.specs.declared.Written.{Written}
-use Rattle.notice.specs.Record.{validRecord}
-use Rattle.notice.specs.Notice.{noticeText}
+use Rattle.record.specs.Record.{validRecord}
+use Rattle.record.specs.Notice.{noticeText}
 use Rattle.notice.specs.Writing.{unwritten, writing}
 use Rattle.board.specs.declared.Runway.{Runway}
 use Rattle.board.specs.declared.Board.{Board}

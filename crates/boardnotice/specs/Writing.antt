@@ -9,7 +9,7 @@ use Rattle.row.specs.Row.{isBlankRow}
 use Rattle.items.specs.declared.Items.{Items}
 use Rattle.items.specs.declared.Language.{Language}
 use Rattle.body.specs.Rows.{makeRows}
-use Rattle.notice.specs.declared.Record.{Record}
+use Rattle.record.specs.declared.Record.{Record}
 use Rattle.notice.specs.declared.Written.{Written}
 use Rattle.notice.specs.Writing.{unwritten, writing, written}
 use Rattle.board.specs.declared.Board.{Board}

@@ -1,15 +1,16 @@
 -- One law for each case of a step of the loops over the rows.
-use Prim.Native.Nat.{ℕ, suc, _+_, _-_, _<_, _≤_, min}
+use Prim.Native.Nat.{ℕ, suc, _+_, _-_, _<_}
 use mathlib.Core.Path.{_≡_, sym, _∙_, ap}
 use mathlib.Core.List.{List, [], _∷_, _++_, map, map-append, append-nil}
 use mathlib.Core.Bool.{Bool, true, false, not}
-use lib.ListN.{length, take, drop, getD, length-take, drop-of-length-le}
-use lib.Seq.{drop-cons, getD-take, take-suc}
+use lib.ListN.{length, take, drop, getD, length-take}
+use lib.Seq.{getD-take, take-suc}
 use native.Mathlib.Numerals.{add-one}
 use native.Mathlib.Omega.{arith}
 use Rattle.text.specs.Choice.{_and_, all}
 use Rattle.text.specs.Piece.{canonical}
 use Rattle.text.specs.Lines.{under}
+use Rattle.text.specs.Laws.Arrays.{next-place, next-used}
 use Rattle.text.specs.Laws.Ended.{under-append}
 use Rattle.row.specs.declared.Row.{Row}
 use Rattle.rowtext.specs.Text.{rowPieces}
@@ -23,21 +24,6 @@ and-yes a b e = rw e
 pub and-no : (a b : Bool) → a ≡ false → (a and b) ≡ false
 unfolding _and_
 and-no a b e = rw e
-
--- what is left from place i of a list, and of its first n
-module _ {A : Type 0} (d : A) (l : List A) (i : ℕ) where
-  next-place : i < length l → drop i l ≡ getD l i d ∷ drop (i + 1) l
-  next-place h = rw add-one (drop-cons l i d h)
-
-  next-used : (n : ℕ) → i < n → i < length l → drop i (take n l) ≡ getD l i d ∷ drop (i + 1) (take n l)
-  next-used n h k =
-      let f : i < length (take n l) = rw length-take (omega arith) in
-      let e : drop i (take n l) ≡ getD (take n l) i d ∷ drop (i + 1) (take n l) = rw add-one (drop-cons (take n l) i d f) in
-      e ∙ ap (λ (a : A). a ∷ drop (i + 1) (take n l)) (getD-take n l i d h)
-
--- nothing is left behind the first n
-pub none-left : {A : Type 0} (l : List A) (n i : ℕ) → min n (length l) ≤ i → drop i (take n l) ≡ []
-none-left l n i h = let k : length (take n l) ≤ i = rw length-take h in drop-of-length-le (take n l) k
 
 -- what the code finds at a place outside an array of rows
 abbrev pub outside : Row

@@ -12,7 +12,7 @@ use Rattle.row.specs.declared.Row.{Row}
 use Rattle.row.specs.Row.{validRow, blankRow, isBlankRow}
 use Rattle.rowtext.specs.Reading.{wholeRow}
 use Rattle.body.specs.declared.Rows.{Rows}
-use Rattle.text.specs.Out.{Out, refuse, taken, fit, atEnd}
+use Rattle.text.specs.Out.{finished, more, After, Out, refuse, taken, fit, atEnd}
 
 -- "1 to 8 runway rows"
 abbrev pub mostRows : ℕ

@@ -20,10 +20,10 @@ use Rattle.rowtext.specs.declared.RowRead.{RowRead}
 use Rattle.row.specs.Row.{validRow}
 use Rattle.rowtext.specs.Text.{rowPieces}
 use Rattle.rowtext.specs.Reading.{wholeRow, refusedRow, answer as rowAnswer}
-use Rattle.heading.specs.Letters.{isLetters}
-use Rattle.heading.specs.Heading.{aerodromeSize, readAerodrome}
-use Rattle.heading.specs.Answers.{aerodromeAnswer}
-use Rattle.heading.specs.declared.AerodromeRead.{AerodromeRead}
+use Rattle.frontlines.specs.Letters.{isLetters}
+use Rattle.frontlines.specs.Heading.{aerodromeSize, readAerodrome}
+use Rattle.frontlines.specs.Answers.{aerodromeAnswer}
+use Rattle.frontlines.specs.declared.AerodromeRead.{AerodromeRead}
 use Rattle.text.specs.Lines.{longest}
 use Rattle.board.specs.declared.Runway.{Runway}
 use Rattle.board.specs.declared.Board.{Board}
@@ -31,6 +31,7 @@ use Rattle.desktext.specs.declared.RunwayList.{RunwayList}
 use Rattle.board.specs.Board.{places, blankRunway, isAerodrome, validList, noRows, answer, opening, refusedOpening}
 use Rattle.board.specs.Report.{report}
 use Rattle.desktext.specs.Line.{readRunways, readOpening, listAnswer, opened, openingLine, reportRead, reportLine, shownText}
+use Rattle.board.specs.Laws.Aerodrome.{aerodrome-fits}
 
 -- the first n bytes of a class, read as a part of their own
 count-split : (p : ℕ → Bool) (n : ℕ) (m : List ℕ) → readCount p n m ≡ andThen (whole (readCount p n (take n m))) (λ a _. got a (drop n m))

@@ -14,7 +14,7 @@ use Rattle.row.specs.declared.Row.{Row}
 use Rattle.row.specs.Row.{validRow}
 use Rattle.rowtext.specs.Text.{rowPieces}
 use Rattle.rowtext.specs.Reading.{wholeRow, refusedRow}
-use Rattle.heading.specs.Heading.{readAerodrome}
+use Rattle.frontlines.specs.Heading.{readAerodrome}
 use Rattle.text.specs.Lines.{longest}
 use Rattle.board.specs.declared.Runway.{Runway}
 use Rattle.board.specs.declared.Board.{Board}

@@ -12,6 +12,7 @@ use Rattle.text.specs.Piece.{bytes}
 use Rattle.text.specs.Put.{Put}
 use Rattle.text.specs.Laws.Put.{whole-put}
 use Rattle.text.specs.Laws.Sizes.{size, number-size}
+use Rattle.row.specs.declared.Row.{Row}
 use Rattle.board.specs.declared.Board.{Board}
 use Rattle.desktext.specs.Laws.Desk.{shown-size}
 use Rattle.desktext.specs.Line.{openingLine, reportLine}

@@ -23,7 +23,7 @@ use board::updated;
 use fill::put;
 use fill::put_number;
 use fill::told_behind;
-use heading::read_aerodrome;
+use frontlines::read_aerodrome;
 use text::LONGEST;
 use row::Row;
 use row::blank_row;

@@ -5,7 +5,7 @@ ghost use lib.ListN.{length};
 use libc::STDIN_FILENO;
 use libc::STDOUT_FILENO;
 use listing::list;
-use notice::Record;
+use record::Record;
 use notice::read;
 use notice::same;
 use notice::write;

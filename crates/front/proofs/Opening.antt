@@ -15,16 +15,16 @@ use Rattle.text.specs.Held.{Held, firstLine}
 use Rattle.text.specs.declared.Line.{Line}
 use Rattle.text.specs.declared.Found.{Found}
 use Rattle.text.specs.Laws.Lines.{whole-got, line-lines}
-use Rattle.heading.specs.declared.Addresses.{Addresses}
-use Rattle.heading.specs.declared.Filing.{Filing}
-use Rattle.heading.specs.declared.AddressesRead.{AddressesRead}
-use Rattle.heading.specs.declared.FilingRead.{FilingRead}
-use Rattle.heading.specs.declared.HeadingRead.{HeadingRead}
-use Rattle.heading.specs.declared.AerodromeRead.{AerodromeRead}
-use Rattle.heading.specs.Addresses.{readAddresses}
-use Rattle.heading.specs.Filing.{readFiling}
-use Rattle.heading.specs.Heading.{Heading, readHeading, readSerialLine, readAerodrome}
-use Rattle.heading.specs.Answers.{addressesAnswer, filingAnswer, headingAnswer, aerodromeAnswer}
+use Rattle.frontlines.specs.declared.Addresses.{Addresses}
+use Rattle.frontlines.specs.declared.Filing.{Filing}
+use Rattle.frontlines.specs.declared.AddressesRead.{AddressesRead}
+use Rattle.frontlines.specs.declared.FilingRead.{FilingRead}
+use Rattle.frontlines.specs.declared.HeadingRead.{HeadingRead}
+use Rattle.frontlines.specs.declared.AerodromeRead.{AerodromeRead}
+use Rattle.frontlines.specs.Addresses.{readAddresses}
+use Rattle.frontlines.specs.Filing.{readFiling}
+use Rattle.frontlines.specs.Heading.{Heading, readHeading, readSerialLine, readAerodrome}
+use Rattle.frontlines.specs.Answers.{addressesAnswer, filingAnswer, headingAnswer, aerodromeAnswer}
 use Rattle.text.specs.Out.{refuse}
 use Rattle.front.specs.declared.Front.{Front}
 use Rattle.front.specs.Front.{frontCount, blankFront, withAddresses, withFiling, withHeading, withSerial, withAerodrome, fillLine, lineRefusal, nextLine, fillLines, frontAnswer, FrontHeld}

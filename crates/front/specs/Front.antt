@@ -8,13 +8,13 @@ use Rattle.text.specs.Choice.{pick}
 use Rattle.text.specs.Piece.{canonical}
 use Rattle.text.specs.Lines.{lines, linesSize}
 use Rattle.text.specs.Read.{Got, readAs, whole}
-use Rattle.heading.specs.declared.Addresses.{Addresses}
-use Rattle.heading.specs.declared.Filing.{Filing}
-use Rattle.heading.specs.declared.Title.{Title}
-use Rattle.heading.specs.Addresses.{readAddresses, addressesPieces}
-use Rattle.heading.specs.Filing.{readFiling, filingPieces}
-use Rattle.heading.specs.Heading.{Heading, aerodromeSize, readHeading, readSerialLine, readAerodrome, headingPieces, serialPieces, aerodromePieces}
-use Rattle.heading.specs.Answers.{zeros, blankAddresses, blankFiling, blankTitle}
+use Rattle.frontlines.specs.declared.Addresses.{Addresses}
+use Rattle.frontlines.specs.declared.Filing.{Filing}
+use Rattle.frontlines.specs.declared.Title.{Title}
+use Rattle.frontlines.specs.Addresses.{readAddresses, addressesPieces}
+use Rattle.frontlines.specs.Filing.{readFiling, filingPieces}
+use Rattle.frontlines.specs.Heading.{Heading, aerodromeSize, readHeading, readSerialLine, readAerodrome, headingPieces, serialPieces, aerodromePieces}
+use Rattle.frontlines.specs.Answers.{zeros, blankAddresses, blankFiling, blankTitle}
 use Rattle.text.specs.Out.{Out, refuse, taken, next, fit}
 use Rattle.front.specs.declared.Front.{Front}
 use Rattle.front.specs.declared.FrontRead.{FrontRead}

@@ -14,11 +14,11 @@ use Rattle.text.specs.Arrays.{slots, pastSlots, flat}
 use Rattle.text.specs.Lines.{lines}
 use Rattle.text.specs.Out.{Out, refuse, taken}
 use Rattle.runway.specs.Time.{isShortMonth, daysOf, realDay, realClock, realTime}
-use Rattle.heading.specs.declared.Title.{Title}
-use Rattle.heading.specs.Letters.{isLetters}
-use Rattle.heading.specs.Addresses.{makeAddresses, readAddresses, addressesPieces}
-use Rattle.heading.specs.Filing.{realFiling, readFiling, filingPieces}
-use Rattle.heading.specs.Heading.{readHeading, readSerialLine, readAerodrome, headingPieces, serialPieces, aerodromePieces}
+use Rattle.frontlines.specs.declared.Title.{Title}
+use Rattle.frontlines.specs.Letters.{isLetters}
+use Rattle.frontlines.specs.Addresses.{makeAddresses, readAddresses, addressesPieces}
+use Rattle.frontlines.specs.Filing.{realFiling, readFiling, filingPieces}
+use Rattle.frontlines.specs.Heading.{readHeading, readSerialLine, readAerodrome, headingPieces, serialPieces, aerodromePieces}
 use Rattle.front.specs.declared.Front.{Front}
 use Rattle.front.specs.Front.{blankFront, withAddresses, withFiling, withHeading, withSerial, withAerodrome, frontCount, fillLine, lineRefusal, nextLine, fillLines, noFront, frontAnswer, FrontHeld, frontText}
 

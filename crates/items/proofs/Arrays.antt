@@ -11,6 +11,7 @@ use Rattle.items.specs.Language.{mostLanguage, validLanguageArray}
 use Rattle.items.specs.declared.Items.{Items}
 use Rattle.items.specs.declared.Language.{Language}
 use Rattle.items.specs.Parts.{holdsItems, noneOrLanguage, holdsLanguage}
+use Rattle.text.specs.Laws.Arrays.{none-taken}
 
 -- the arrays of a record hold what the tests of their items and bytes say
 pub items-array : (i : Items) → length (i .items) ≡ mostItems → validItemArray (i .count) (i .items) ≡ holdsItems i

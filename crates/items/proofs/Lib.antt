@@ -1,3 +1,3 @@
 pub mod Steps
-pub mod Language
+pub mod Plain
 pub mod Arrays

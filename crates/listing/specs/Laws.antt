@@ -11,10 +11,10 @@ use Rattle.text.specs.Put.{Put}
 use Rattle.text.specs.Laws.Base.{and-1, and-2}
 use Rattle.text.specs.Laws.Sizes.{size, digits-size, number-size}
 use Rattle.body.specs.Rows.{validRows}
-use Rattle.notice.specs.declared.Record.{Record}
-use Rattle.notice.specs.declared.Reading.{Reading}
-use Rattle.notice.specs.Record.{validRecord}
-use Rattle.notice.specs.Notice.{noticeText}
+use Rattle.record.specs.declared.Record.{Record}
+use Rattle.record.specs.declared.Reading.{Reading}
+use Rattle.record.specs.Record.{validRecord}
+use Rattle.record.specs.Notice.{noticeText}
 use Rattle.notice.specs.Reading.{reading}
 use Rattle.listing.specs.Listing.{counted, acceptedLine, refusedLine, listed, listing}
 

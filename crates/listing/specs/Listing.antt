@@ -8,9 +8,9 @@ use Rattle.text.specs.Numbers.{number}
 use Rattle.row.specs.declared.Row.{Row}
 use Rattle.row.specs.Agreement.{disagreements}
 use Rattle.body.specs.Rows.{rowsOf}
-use Rattle.notice.specs.declared.Record.{Record}
-use Rattle.notice.specs.declared.Reading.{Reading}
-use Rattle.notice.specs.Notice.{noticeText}
+use Rattle.record.specs.declared.Record.{Record}
+use Rattle.record.specs.declared.Reading.{Reading}
+use Rattle.record.specs.Notice.{noticeText}
 use Rattle.notice.specs.Reading.{reading}
 
 -- "disagreeing thirds", those of all rows together

@@ -20,18 +20,19 @@ use Rattle.row.specs.Agreement.{disagrees, disagreements}
 use Rattle.rowtext.specs.Reading.{readFull, readShort, readWidth, readRow}
 use Rattle.row.specs.Row.{threeThat, validRow, isBare, isSix, isDry, isShort}
 use Rattle.rowtext.specs.Text.{middlePieces, widthPieces, rowPieces}
-use Rattle.heading.specs.Addresses.{addressesPieces, readAddresses}
-use Rattle.heading.specs.Filing.{realFiling, filingPieces, readFiling}
-use Rattle.heading.specs.Heading.{headingPieces, readHeading, serialPieces, readSerialLine, aerodromePieces, readAerodrome}
-use Rattle.heading.specs.Letters.{isLetters}
+use Rattle.frontlines.specs.Addresses.{addressesPieces, readAddresses}
+use Rattle.frontlines.specs.Filing.{realFiling, filingPieces, readFiling}
+use Rattle.frontlines.specs.Heading.{headingPieces, readHeading, serialPieces, readSerialLine, aerodromePieces, readAerodrome}
+use Rattle.frontlines.specs.Letters.{isLetters}
 use Rattle.items.specs.Awareness.{sameRunway, otherApron, mayRepeat, mayFollow, inOrder, awarenessPieces, readAwareness, wholeAwareness}
 use Rattle.items.specs.Item.{onRunway, onTaxiways, runwayFits, amountFits, edgeFits, countFits, isTaxiway, validSlot, isNew, slotsFit, taxiwaysFit, nameFits, numbersFit, validItem}
 use Rattle.items.specs.ItemText.{itemText, itemPieces}
 use Rattle.items.specs.Language.{lastIs, validLanguage, wholeLanguage}
 use Rattle.items.specs.ReadItem.{readLength, readBank, readNeither, readDetail, readTaxiway, readTaxiways, readApron, readRunwayForm, readTaxiForm, readApronForm, readBareForm, readForm, readBody, readItem}
 use Rattle.body.specs.Rows.{isAmong, newRunways, latestOf, latestFrom, latest, readRows}
-use Rattle.notice.specs.Notice.{noticeLines, notice, noticeText}
-use Rattle.notice.specs.Reading.{mismatch, agreeing, readNotice, reading}
+use Rattle.record.specs.Notice.{noticeLines, notice, noticeText}
+use Rattle.record.specs.Answer.{mismatch}
+use Rattle.notice.specs.Reading.{agreeing, readNotice, reading}
 use Rattle.notice.specs.Examples.{message, headed, typed, retyped}
 use Rattle.listing.specs.Listing.{disagreeingThirds, counted, acceptedLine, refusedLine, listed, listing}
 use Rattle.body.specs.Rows as Rows

@@ -2,12 +2,12 @@
 ghost use mathlib.Core.Path.{_≡_};
 ghost use Rattle.text.specs.Put.{Put};
 ghost use Rattle.body.specs.Rows.{rowsOf};
-ghost use Rattle.notice.specs.Notice.{noticeText};
+ghost use Rattle.record.specs.Notice.{noticeText};
 ghost use Rattle.listing.specs.Listing.{disagreeingThirds, counted, acceptedLine, refusedLine, listing};
 use body::MOST_ROWS;
 use body::Rows;
-use notice::Record;
-use notice::put_notice;
+use record::Record;
+use record::put_notice;
 use notice::read;
 use row::disagreements;
 use text::place;

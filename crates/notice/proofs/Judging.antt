@@ -21,14 +21,16 @@ use Rattle.text.specs.Laws.Out.{Numbered}
 use Rattle.remarks.specs.Laws.Remarks.{remarks-numbered}
 use Rattle.front.specs.declared.Front.{Front}
 use Rattle.front.specs.declared.FrontRead.{FrontRead}
-use Rattle.notice.specs.declared.Record.{Record}
-use Rattle.notice.specs.declared.Reading.{Reading}
-use Rattle.notice.specs.Record.{makeRecord}
-use Rattle.notice.specs.Reading.{agreeing, accepted, refused, result, reading}
+use Rattle.record.specs.declared.Record.{Record}
+use Rattle.record.specs.declared.Reading.{Reading}
+use Rattle.record.specs.Record.{makeRecord}
+use Rattle.notice.specs.Reading.{agreeing, result, reading}
+use Rattle.record.specs.Answer.{accepted, refused}
 use Rattle.front.specs.Front.{headingOf, FrontHeld}
 use Rattle.remarks.specs.declared.RemarksRead.{RemarksRead}
 use Rattle.remarks.specs.Held.{remarksAnswer}
-use Rattle.notice.specs.Below.{readBelow, partsMismatch, lastRefusal, recordOf}
+use Rattle.notice.specs.Below.{readBelow}
+use Rattle.record.specs.Fitted.{partsMismatch, lastRefusal, recordOf}
 use Rattle.notice.specs.Laws.Front.{front-is}
 
 -- the record of a front, rows and remarks, if its lines agree

@@ -3,7 +3,6 @@ use Prim.Native.Nat.{ℕ}
 use Prim.Native.String.{String}
 use mathlib.Core.Path.{_≡_, refl}
 use mathlib.Core.List.{List, [], _∷_, _++_, map}
-use lib.ListN.{replicate}
 use Rattle.text.specs.Choice.{_and_}
 use Rattle.text.specs.Arrays.{slots, flat}
 use Rattle.text.specs.Lines.{lines, closed, ended}
@@ -18,26 +17,23 @@ use Rattle.surface.specs.Descriptions.{isContaminant, isDeep}
 use Rattle.surface.specs.Third.{isCoverage, validCoverage, leastDepth, isReported, validDepth, validThird}
 use Rattle.thirds.specs.Groups.{measurePieces, readMeasure, readCoverage, readDescription, thirdPieces, readThird, highest, readGroup}
 use Rattle.rowtext.specs.Reading.{readFull, readShort, readWidth, readRow}
-use Rattle.row.specs.Row.{blankRow, threeThat, validRow, isBare, isSix, isDry, isShort}
+use Rattle.row.specs.Row.{threeThat, validRow, isBare, isSix, isDry, isShort}
 use Rattle.rowtext.specs.Text.{middlePieces, widthPieces, rowPieces}
-use Rattle.heading.specs.Addresses.{addressesPieces, readAddresses}
-use Rattle.heading.specs.Filing.{realFiling, filingPieces, readFiling}
-use Rattle.heading.specs.Heading.{headingPieces, readHeading, serialPieces, readSerialLine, aerodromePieces, readAerodrome}
-use Rattle.heading.specs.Letters.{isLetters}
-use Rattle.items.specs.Awareness.{blankItem, sameRunway, otherApron, mayRepeat, mayFollow, inOrder, awarenessPieces, readAwareness, wholeAwareness}
+use Rattle.frontlines.specs.Addresses.{addressesPieces, readAddresses}
+use Rattle.frontlines.specs.Filing.{realFiling, filingPieces, readFiling}
+use Rattle.frontlines.specs.Heading.{headingPieces, readHeading, serialPieces, readSerialLine, aerodromePieces, readAerodrome}
+use Rattle.frontlines.specs.Letters.{isLetters}
+use Rattle.items.specs.Awareness.{sameRunway, otherApron, mayRepeat, mayFollow, inOrder, awarenessPieces, readAwareness, wholeAwareness}
 use Rattle.items.specs.Item.{onRunway, onTaxiways, runwayFits, amountFits, edgeFits, countFits, isTaxiway, validSlot, isNew, slotsFit, taxiwaysFit, nameFits, numbersFit, validItem}
 use Rattle.items.specs.ItemText.{itemText, itemPieces}
 use Rattle.items.specs.Language.{lastIs, validLanguage, wholeLanguage}
 use Rattle.items.specs.ReadItem.{readLength, readBank, readNeither, readDetail, readTaxiway, readTaxiways, readApron, readRunwayForm, readTaxiForm, readApronForm, readBareForm, readForm, readBody, readItem}
 use Rattle.body.specs.Rows.{isAmong, newRunways, latestOf, latestFrom, latest, readRows}
-use Rattle.notice.specs.Record.{blankRecord}
-use Rattle.notice.specs.Notice.{noticeLines, notice, noticeText}
-use Rattle.notice.specs.Reading.{mismatch, agreeing, readNotice, reading}
+use Rattle.record.specs.Notice.{noticeLines, notice, noticeText}
+use Rattle.record.specs.Answer.{mismatch}
+use Rattle.notice.specs.Reading.{agreeing, readNotice, reading}
 use Rattle.body.specs.Rows as Rows
 use Rattle.body.specs.declared.Rows.{Rows}
-use Rattle.front.specs.declared.Front.{Front}
-use Rattle.front.specs.Front.{blankFront}
-use Rattle.notice.specs.Below.{partsMismatch, lastRefusal}
 
 -- lines, each with its LF
 abbrev pub message : List String → List ℕ
@@ -91,15 +87,6 @@ pub record Examples : Type 0 where
       ∷ below ("01120640 07R 6/6/6 DRY/DRY/DRY" ∷ [])
       ∷ below ("01120640 07R 6/6/6 DRY/DRY/DRY)" ∷ "" ∷ [])
       ∷ []) ≡ 2 ∷ 2 ∷ 3 ∷ 4 ∷ 4 ∷ 4 ∷ 4 ∷ []
-  -- "blank means all zero"
-  blank : blankRecord ≡ record {
-    addresses = record { priority = 0; count = 0; letters = replicate 64 0 };
-    filing = record { time = 0; originator = replicate 8 0 };
-    title = record { region = 0 ∷ 0 ∷ []; serial = 0; aerodrome = 0 ∷ 0 ∷ 0 ∷ 0 ∷ [] };
-    rows = record { count = 0; rows = replicate 8 blankRow };
-    items = record { count = 0; items = replicate 32 blankItem };
-    language = record { length = 0; bytes = replicate 400 0 };
-  }
   -- a row, a runway twice, the awareness line, the plain language
   body : map refusalOf (
       below ("01120640 07R 7/6/6 DRY/DRY/DRY)" ∷ [])
@@ -129,32 +116,6 @@ pub record Examples : Type 0 where
       ∷ headed "SWXQ0007 XQAA 01120610" "(SNOWTAM 0007" "XQAA"
       ∷ []) ≡ 0 ∷ 10 ∷ 11 ∷ 12 ∷ []
 
--- parts that fit, each by itself: a front with these serials, aerodrome and time, over a row of 01120640
-abbrev front : ℕ → ℕ → String → ℕ → Front
-front first second aerodrome time = record {
-  addresses = blankFront .addresses;
-  filing = blankFront .filing;
-  title = record { region = bytes "XQ"; serial = first; aerodrome = bytes "XQAA" };
-  time = time;
-  serial = second;
-  aerodrome = bytes aerodrome;
-}
-
-abbrev one : Rows
-one = Rows.makeRows (record { time = 1120640; number = 7; side = 0; thirds = blankRow .thirds; width = 0 } ∷ [])
-
-pub record Parts : Type 0 where
-  agree : partsMismatch (front 7 7 "XQAA" 1120640) one ≡ 0
-  serials : map (λ n. partsMismatch (front 7 n "XQBB" 1120610) one) (6 ∷ 8 ∷ []) ≡ 10 ∷ 10 ∷ []
-  aerodromes : partsMismatch (front 7 7 "XQBB" 1120610) one ≡ 11
-  times : map (λ t. partsMismatch (front 7 7 "XQAA" t) one) (1120639 ∷ 1120641 ∷ []) ≡ 12 ∷ 12 ∷ []
-  -- the refusal of what stands below the rows comes first
-  first : map (lastRefusal (front 7 8 "XQAA" 1120640) one) (0 ∷ 1 ∷ 9 ∷ []) ≡ 10 ∷ 1 ∷ 9 ∷ []
-
-pub parts : Parts
-unfolding _and_ latestOf latestFrom latest later mismatch lastRefusal
-parts = record { agree = refl; serials = refl; aerodromes = refl; times = refl; first = refl }
-
 pub examples : Examples
 unfolding slots flat _and_ lines closed Lines.front ended run past isMark readCount readName readDigits digits spell skip readText readMany validRunway isShortMonth daysOf realDay realClock realTime later isContaminant isDeep isCoverage validCoverage leastDepth isReported validDepth validThird measurePieces readMeasure readCoverage readDescription thirdPieces readThird highest readGroup readFull readShort readWidth readRow threeThat validRow isBare isSix isDry isShort middlePieces widthPieces rowPieces addressesPieces readAddresses realFiling filingPieces readFiling headingPieces readHeading serialPieces readSerialLine aerodromePieces readAerodrome isLetters sameRunway otherApron mayRepeat mayFollow inOrder awarenessPieces readAwareness wholeAwareness onRunway onTaxiways runwayFits amountFits edgeFits countFits isTaxiway validSlot isNew slotsFit taxiwaysFit nameFits numbersFit validItem itemText itemPieces lastIs validLanguage wholeLanguage readLength readBank readNeither readDetail readTaxiway readTaxiways readApron readRunwayForm readTaxiForm readApronForm readBareForm readForm readBody readItem isAmong newRunways latestOf latestFrom latest readRows noticeLines notice noticeText mismatch agreeing readNotice reading Rows.sameRunway
-examples = record { accepted = refl; rows = refl; items = refl; rewritten = refl; missing = refl; blank = refl; body = refl; remarks = refl; ninth = refl; differing = refl }
+examples = record { accepted = refl; rows = refl; items = refl; rewritten = refl; missing = refl; body = refl; remarks = refl; ninth = refl; differing = refl }

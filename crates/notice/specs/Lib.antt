@@ -1,6 +1,4 @@
 -- Definitions first; Theorems states demand 2 of them; what it rests on is under Laws.
-pub mod Record
-pub mod Notice
 pub mod Reading
 pub mod Writing
 pub mod Rewriting

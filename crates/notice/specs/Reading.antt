@@ -3,27 +3,18 @@ use Prim.Native.Nat.{ℕ}
 use mathlib.Core.List.{List, []}
 use lib.Dec.{eqb, leb}
 use lib.ListN.{length}
-use Rattle.text.specs.Choice.{pick, sameBytes}
+use Rattle.text.specs.Choice.{pick}
 use Rattle.text.specs.Lines.{lines}
 use Rattle.row.specs.declared.Row.{Row}
-use Rattle.heading.specs.Addresses.{readAddresses}
-use Rattle.heading.specs.Filing.{readFiling}
-use Rattle.heading.specs.Heading.{Heading, readHeading, readSerialLine, readAerodrome}
+use Rattle.frontlines.specs.Addresses.{readAddresses}
+use Rattle.frontlines.specs.Filing.{readFiling}
+use Rattle.frontlines.specs.Heading.{Heading, readHeading, readSerialLine, readAerodrome}
 use Rattle.text.specs.Out.{Out, refuse, taken, next, line}
-use Rattle.body.specs.Rows.{mostRows, latest, readRows}
+use Rattle.body.specs.Rows.{mostRows, readRows}
 use Rattle.remarks.specs.Remarks.{readRemarks}
-use Rattle.notice.specs.declared.Record.{Record}
-use Rattle.notice.specs.declared.Reading.{Reading}
-use Rattle.notice.specs.Record.{makeRecord, blankRecord}
-
--- "serials differ; aerodromes differ; heading time not the latest": 10, 11, 12, or 0 where the lines agree
-unfoldable pub mismatch : Heading → ℕ → List ℕ → List Row → ℕ
-mismatch h serial aerodrome rows =
-    pick (eqb (h .title .serial) serial)
-    (pick (sameBytes (h .title .aerodrome) aerodrome)
-    (pick (eqb (h .time) (latest rows)) 0 12)
-    11)
-    10
+use Rattle.record.specs.declared.Record.{Record}
+use Rattle.record.specs.declared.Reading.{Reading}
+use Rattle.record.specs.Record.{makeRecord}
 
 -- the record, where they agree
 unfoldable pub agreeing : Heading → ℕ → List ℕ → List Row → Record → Out Record
@@ -40,14 +31,6 @@ readNotice ls₁ =
     next (readRows mostRows [] ls₆) (λ block.
     next (readRemarks (block .after)) (λ remarks.
     agreeing heading serial aerodrome (block .rows) (makeRecord addresses filing (heading .title) (block .rows) remarks))))))))
-
--- the answer to a message that is taken
-abbrev pub accepted : Record → Reading
-accepted r = record { refusal = 0; «record» = r }
-
--- the answer to one that is refused: its number and the blank record
-abbrev pub refused : ℕ → Reading
-refused n = record { refusal = n; «record» = blankRecord }
 
 -- the answer to a message
 abbrev pub result : Out Record → Reading

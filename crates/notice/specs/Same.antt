@@ -6,8 +6,9 @@ use mathlib.Core.Bool.{Bool, true}
 use mathlib.Core.Logic.{_↔_}
 use Rattle.text.specs.Choice.{_and_}
 use Rattle.sameness.specs.Same.{sameAddresses, sameFiling, sameTitle, sameRows, sameItems, sameLanguage}
-use Rattle.notice.specs.declared.Record.{Record}
-use Rattle.notice.specs.Reading.{accepted, reading}
+use Rattle.record.specs.declared.Record.{Record}
+use Rattle.record.specs.Answer.{accepted}
+use Rattle.notice.specs.Reading.{reading}
 
 -- "Two messages tell the same when both are accepted and their records are equal"
 pub record TellSame (a b : List ℕ) : Type 0 where

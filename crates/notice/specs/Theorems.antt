@@ -15,12 +15,13 @@ use Rattle.text.specs.Lines.{lines, ended}
 use Rattle.text.specs.Laws.Typing.{canonical-typed}
 use Rattle.text.specs.Laws.Lines.{lines-sound, lines-complete}
 use Rattle.text.specs.Out.{Out, refuse, taken}
-use Rattle.notice.specs.declared.Record.{Record}
-use Rattle.notice.specs.declared.Reading.{Reading}
+use Rattle.record.specs.declared.Record.{Record}
+use Rattle.record.specs.declared.Reading.{Reading}
 use Rattle.notice.specs.declared.Written.{Written}
-use Rattle.notice.specs.Record.{validRecord, blankRecord}
-use Rattle.notice.specs.Notice.{noticeLines, notice, noticeText}
-use Rattle.notice.specs.Reading.{readNotice, accepted, refused, result, reading}
+use Rattle.record.specs.Record.{validRecord, blankRecord}
+use Rattle.record.specs.Notice.{noticeLines, notice, noticeText}
+use Rattle.notice.specs.Reading.{readNotice, result, reading}
+use Rattle.record.specs.Answer.{accepted, refused}
 use Rattle.notice.specs.Writing.{unwritten, writing, Wrote}
 use Rattle.notice.specs.Rewriting.{rewriting, Rewrote}
 use Rattle.notice.specs.Same.{TellSame, SaysSame}

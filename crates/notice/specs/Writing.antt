@@ -5,10 +5,10 @@ use mathlib.Core.List.{List, _++_}
 use lib.Dec.{leb}
 use lib.ListN.{length, drop}
 use Rattle.text.specs.Choice.{pick}
-use Rattle.notice.specs.declared.Record.{Record}
+use Rattle.record.specs.declared.Record.{Record}
 use Rattle.notice.specs.declared.Written.{Written}
-use Rattle.notice.specs.Record.{validRecord}
-use Rattle.notice.specs.Notice.{noticeText}
+use Rattle.record.specs.Record.{validRecord}
+use Rattle.record.specs.Notice.{noticeText}
 
 -- "Refused writing reports length 0"
 abbrev pub unwritten : ℕ → Written

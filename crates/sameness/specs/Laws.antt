@@ -9,9 +9,9 @@ use Rattle.text.specs.Laws.Same.{all-same, same-all, same-true, same-refl}
 use Rattle.surface.specs.declared.Third.{Third}
 use Rattle.row.specs.declared.Row.{Row}
 use Rattle.items.specs.declared.Item.{Item}
-use Rattle.heading.specs.declared.Addresses.{Addresses}
-use Rattle.heading.specs.declared.Filing.{Filing}
-use Rattle.heading.specs.declared.Title.{Title}
+use Rattle.frontlines.specs.declared.Addresses.{Addresses}
+use Rattle.frontlines.specs.declared.Filing.{Filing}
+use Rattle.frontlines.specs.declared.Title.{Title}
 use Rattle.body.specs.declared.Rows.{Rows}
 use Rattle.items.specs.declared.Items.{Items}
 use Rattle.items.specs.declared.Language.{Language}

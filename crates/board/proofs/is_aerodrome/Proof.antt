@@ -1,5 +1,5 @@
 use mathlib.Core.Path.{_∙_, ap}
-use Rattle.board.proofs.Lines.{aerodrome-fits}
+use Rattle.board.specs.Laws.Aerodrome.{aerodrome-fits}
 use borrow.Author.Needs.{needs}
 use Rattle.board.proofs.is_aerodrome.Statement.{statement}
 use Rattle.board.proofs.is_aerodrome.Tie as tie

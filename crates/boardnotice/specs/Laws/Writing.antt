@@ -10,12 +10,12 @@ use Rattle.text.specs.Choice.{pick, all, isEmpty}
 use Rattle.text.specs.Laws.Base.{and-1, and-2, and-i}
 use Rattle.row.specs.declared.Row.{Row}
 use Rattle.row.specs.Row.{validRow, isBlankRow}
-use Rattle.heading.specs.Heading.{validTitle}
+use Rattle.frontlines.specs.Heading.{validTitle}
 use Rattle.body.specs.Rows.{sameRunway, isAmong, newRunways}
 use Rattle.body.specs.Laws.Parts.{GoodRows, rows-valid}
-use Rattle.notice.specs.declared.Record.{Record}
-use Rattle.notice.specs.Record.{validRecord}
-use Rattle.notice.specs.Notice.{noticeText}
+use Rattle.record.specs.declared.Record.{Record}
+use Rattle.record.specs.Record.{validRecord}
+use Rattle.record.specs.Notice.{noticeText}
 use Rattle.notice.specs.Writing.{writing}
 use Rattle.board.specs.declared.Runway.{Runway}
 use Rattle.board.specs.declared.Board.{Board}

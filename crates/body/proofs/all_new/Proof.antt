@@ -3,7 +3,8 @@ use mathlib.Core.Path.{_≡_, refl, sym, _∙_}
 use mathlib.Core.List.{[]}
 use lib.ListN.{take, drop}
 use Rattle.body.specs.Rows.{newRunways}
-use Rattle.body.proofs.Loops.{none-left, new-hit, new-miss, new-none}
+use Rattle.text.specs.Laws.Arrays.{none-left}
+use Rattle.body.proofs.Loops.{new-hit, new-miss, new-none}
 use borrow.Author.Needs.{needs}
 use Rattle.body.proofs.all_new.Statement.{statement}
 use Rattle.body.proofs.all_new.Tie as tie

@@ -4,7 +4,8 @@ use lib.ListN.{take, drop}
 use borrow.Author.Tests.{not-true, not-false}
 use Rattle.text.specs.Choice.{all}
 use Rattle.row.specs.Row.{validRow}
-use Rattle.body.proofs.Loops.{none-left, used-yes, used-no}
+use Rattle.text.specs.Laws.Arrays.{none-left}
+use Rattle.body.proofs.Loops.{used-yes, used-no}
 use borrow.Author.Needs.{needs}
 use Rattle.body.proofs.all_valid.Statement.{statement}
 use Rattle.body.proofs.all_valid.Tie as tie

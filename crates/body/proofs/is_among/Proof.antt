@@ -2,7 +2,8 @@ use Prim.Native.Nat.{_≤_, _-_}
 use mathlib.Core.Path.{_≡_, refl, sym, _∙_}
 use lib.ListN.{take, drop}
 use Rattle.body.specs.Rows.{isAmong}
-use Rattle.body.proofs.Loops.{none-left, among-hit, among-miss, among-none}
+use Rattle.text.specs.Laws.Arrays.{none-left}
+use Rattle.body.proofs.Loops.{among-hit, among-miss, among-none}
 use borrow.Author.Needs.{needs}
 use Rattle.body.proofs.is_among.Statement.{statement}
 use Rattle.body.proofs.is_among.Tie as tie

@@ -3,7 +3,8 @@ use mathlib.Core.Path.{_≡_, sym, _∙_}
 use native.Mathlib.Omega.{arith}
 use lib.ListN.{length, drop, length-map}
 use Rattle.body.specs.Rows.{latest, latestFrom, rowsOf}
-use Rattle.body.proofs.Loops.{none-left, latest-first, latest-next, latest-none, latest-zero}
+use Rattle.text.specs.Laws.Arrays.{none-left}
+use Rattle.body.proofs.Loops.{latest-first, latest-next, latest-none, latest-zero}
 use borrow.Author.Needs.{needs}
 use Rattle.body.proofs.latest_time.Statement.{statement}
 use Rattle.body.proofs.latest_time.Tie as tie

@@ -22,6 +22,7 @@ use Rattle.rowtext.specs.Laws.Row.{row-laws}
 use Rattle.text.specs.Out.{refuse, taken, fit, atEnd, After, finished, more}
 use Rattle.body.specs.Rows.{isAmong, newRunways, Block, block, readRows}
 use Rattle.text.specs.Laws.Out.{no-refuse, took, fit-took, end-took, Numbered, fit-numbered, pick-numbered, end-numbered}
+use Rattle.text.specs.Laws.Told.{Follows, closed-tells, open-tells, Told, last-line, one-line, told, told-some, Tail, nothing, something, append-some, opened-closed, opened-open}
 
 -- the rows that were read behind those seen
 pub record Read (n : ℕ) (seen : List Row) (ls : List (List ℕ)) (b : Block) : Type 0 where

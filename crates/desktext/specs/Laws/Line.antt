@@ -27,9 +27,9 @@ use Rattle.row.specs.Row.{highestRunway, validRow, isBlankRow}
 use Rattle.rowtext.specs.Text.{rowPieces}
 use Rattle.row.specs.Laws.Row.{blank-row}
 use Rattle.rowtext.specs.Laws.Sizes.{row-size}
-use Rattle.heading.specs.Letters.{isLetters}
-use Rattle.heading.specs.Heading.{aerodromeSize, readAerodrome}
-use Rattle.heading.specs.Laws.Letters.{letters-laws}
+use Rattle.frontlines.specs.Letters.{isLetters}
+use Rattle.frontlines.specs.Heading.{aerodromeSize, readAerodrome}
+use Rattle.frontlines.specs.Laws.Letters.{letters-laws}
 use Rattle.board.specs.declared.Runway.{Runway}
 use Rattle.board.specs.declared.Board.{Board}
 use Rattle.board.specs.Board.{places, blankRunway, isBlankRunway, isAerodrome, rises, rising, validList, fitsPlace, runwaysOf, validBoard, fresh, answer, opening}

@@ -4,7 +4,7 @@ use borrow.Author.Tests.{le-leb, lt-leb, eq-eqb, ne-eqb}
 use Rattle.text.specs.Choice.{_and_}
 use Rattle.text.specs.Laws.Tests.{and-on, and-off}
 use Rattle.items.specs.Language.{validLanguage}
-use Rattle.items.proofs.Language.{language-tests}
+use Rattle.items.proofs.Plain.{language-tests}
 use borrow.Author.Needs.{needs}
 use Rattle.items.proofs.valid_language.Statement.{statement}
 use Rattle.items.proofs.valid_language.Tie as tie

@@ -1,5 +1,5 @@
 use lib.ListN.{length}
-use Rattle.notice.specs.Notice.{noticeText}
+use Rattle.record.specs.Notice.{noticeText}
 use Rattle.notice.specs.Laws.Size.{text-fits}
 use borrow.Author.Tests.{le-leb}
 use native.Mathlib.Omega.{arith}

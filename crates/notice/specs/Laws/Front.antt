@@ -3,11 +3,11 @@ use Prim.Native.Nat.{ℕ, suc}
 use mathlib.Core.Path.{_≡_, refl}
 use mathlib.Core.List.{List, [], _∷_}
 use Rattle.text.specs.Read.{Got, misfit, got, andThen, whole}
-use Rattle.heading.specs.Addresses.{readAddresses}
-use Rattle.heading.specs.Filing.{readFiling}
-use Rattle.heading.specs.Heading.{readHeading, readSerialLine, readAerodrome}
+use Rattle.frontlines.specs.Addresses.{readAddresses}
+use Rattle.frontlines.specs.Filing.{readFiling}
+use Rattle.frontlines.specs.Heading.{readHeading, readSerialLine, readAerodrome}
 use Rattle.text.specs.Out.{Out, next, fit, line, taken}
-use Rattle.notice.specs.declared.Record.{Record}
+use Rattle.record.specs.declared.Record.{Record}
 use Rattle.front.specs.declared.Front.{Front}
 use Rattle.notice.specs.Reading.{readNotice}
 use Rattle.front.specs.Front.{blankFront, withAddresses, withFiling, withHeading, withSerial, withAerodrome, frontCount, fillLine, lineRefusal, nextLine, fillLines}

@@ -19,12 +19,12 @@ use Rattle.text.specs.Laws.Same.{same-true, same-refl}
 use Rattle.items.specs.Awareness.{validItems, awarenessPieces}
 use Rattle.items.specs.Laws.Awareness.{awareness-laws}
 use Rattle.items.specs.Laws.Language.{language-laws}
-use Rattle.heading.specs.Addresses.{readAddresses}
-use Rattle.heading.specs.Filing.{readFiling}
-use Rattle.heading.specs.Heading.{Heading, readHeading, serialPieces, readSerialLine, aerodromePieces, readAerodrome, isSerial, validTitle}
-use Rattle.heading.specs.Laws.Addresses.{addresses-laws}
-use Rattle.heading.specs.Laws.Filing.{filing-laws}
-use Rattle.heading.specs.Laws.Heading.{heading-laws, serial-line-laws, aerodrome-laws}
+use Rattle.frontlines.specs.Addresses.{readAddresses}
+use Rattle.frontlines.specs.Filing.{readFiling}
+use Rattle.frontlines.specs.Heading.{Heading, readHeading, serialPieces, readSerialLine, aerodromePieces, readAerodrome, isSerial, validTitle}
+use Rattle.frontlines.specs.Laws.Addresses.{addresses-laws}
+use Rattle.frontlines.specs.Laws.Filing.{filing-laws}
+use Rattle.frontlines.specs.Laws.Heading.{heading-laws, serial-line-laws, aerodrome-laws}
 use Rattle.text.specs.Out.{Out, refuse, taken, line}
 use Rattle.body.specs.Rows.{mostRows, latest, readRows}
 use Rattle.remarks.specs.Remarks.{remarkLines, languageLines, readRemarks}
@@ -33,9 +33,10 @@ use Rattle.text.specs.Laws.Out.{no-refuse, took, fit-took, next-took, line-numb
 use Rattle.body.specs.Laws.Rows.{rows-sound, rows-numbered, rows-complete}
 use Rattle.text.specs.Laws.Told.{Told, last-line, one-line, told}
 use Rattle.remarks.specs.Laws.Remarks.{remarks-sound, remarks-complete, remarks-tail, remarks-numbered}
-use Rattle.notice.specs.declared.Record.{Record}
-use Rattle.notice.specs.Record.{makeRecord}
-use Rattle.notice.specs.Reading.{mismatch, agreeing, readNotice}
+use Rattle.record.specs.declared.Record.{Record}
+use Rattle.record.specs.Record.{makeRecord}
+use Rattle.record.specs.Answer.{mismatch}
+use Rattle.notice.specs.Reading.{agreeing, readNotice}
 use Rattle.notice.specs.Laws.Parts.{Parts, made, partLines, Good, title-valid}
 
 -- inversion of a line, and of the agreement at the end

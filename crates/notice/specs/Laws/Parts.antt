@@ -7,19 +7,19 @@ use Rattle.text.specs.Laws.Base.{and-1, and-2, and-i}
 use Rattle.row.specs.declared.Row.{Row}
 use Rattle.rowtext.specs.Text.{rowPieces}
 use Rattle.items.specs.Awareness.{validItems}
-use Rattle.heading.specs.declared.Addresses.{Addresses}
-use Rattle.heading.specs.declared.Filing.{Filing}
-use Rattle.heading.specs.Addresses.{addressesPieces, validAddresses}
-use Rattle.heading.specs.Filing.{filingPieces, validFiling}
-use Rattle.heading.specs.Heading.{Heading, headingPieces, validTitle, validHeading, serialPieces, aerodromePieces}
+use Rattle.frontlines.specs.declared.Addresses.{Addresses}
+use Rattle.frontlines.specs.declared.Filing.{Filing}
+use Rattle.frontlines.specs.Addresses.{addressesPieces, validAddresses}
+use Rattle.frontlines.specs.Filing.{filingPieces, validFiling}
+use Rattle.frontlines.specs.Heading.{Heading, headingPieces, validTitle, validHeading, serialPieces, aerodromePieces}
 use Rattle.body.specs.Rows.{rowsOf, latest}
 use Rattle.remarks.specs.Remarks.{Remarks, remarks, remarkLines}
 use Rattle.items.specs.Parts.{itemsOf, languageOf, noneOrLanguage}
 use Rattle.body.specs.Laws.Parts.{GoodRows, rows-kept, rows-valid, rows-made, rows-good, latest-real}
 use Rattle.items.specs.Laws.Parts.{items-kept, items-held, items-valid, items-made, language-kept, language-held, language-valid, language-made}
-use Rattle.notice.specs.declared.Record.{Record}
-use Rattle.notice.specs.Record.{makeRecord, validRecord}
-use Rattle.notice.specs.Notice.{noticeLines}
+use Rattle.record.specs.declared.Record.{Record}
+use Rattle.record.specs.Record.{makeRecord, validRecord}
+use Rattle.record.specs.Notice.{noticeLines}
 
 -- what the lines say
 pub record Parts : Type 0 where

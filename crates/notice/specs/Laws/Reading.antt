@@ -4,8 +4,9 @@ use mathlib.Core.Path.{_≡_, ap}
 use native.Mathlib.Omega.{arith}
 use Rattle.text.specs.Out.{Out, refuse, taken}
 use Rattle.text.specs.Laws.Out.{Numbered}
-use Rattle.notice.specs.declared.Record.{Record}
-use Rattle.notice.specs.Reading.{accepted, result}
+use Rattle.record.specs.declared.Record.{Record}
+use Rattle.record.specs.Answer.{accepted}
+use Rattle.notice.specs.Reading.{result}
 
 -- no refusal has the number 0
 pub result-took : (o : Out Record) {r : Record} → Numbered o → result o ≡ accepted r → o ≡ taken r

@@ -3,7 +3,7 @@ use Prim.Native.Nat.{ℕ}
 use mathlib.Core.Path.{_≡_}
 use mathlib.Core.List.{List}
 use borrow.Author.Tests.{eq-eqb, ne-eqb}
-use Rattle.notice.specs.declared.Reading.{Reading}
+use Rattle.record.specs.declared.Reading.{Reading}
 use Rattle.notice.specs.declared.Written.{Written}
 use Rattle.notice.specs.Reading.{reading}
 use Rattle.notice.specs.Writing.{unwritten, Wrote}

@@ -5,10 +5,11 @@ use mathlib.Core.List.{List}
 use mathlib.Core.Bool.{Bool, true, false}
 use Rattle.text.specs.Laws.Base.{and-1, and-2, and-i, true-false}
 use Rattle.sameness.specs.Laws.{addresses-same, same-addresses, filing-same, same-filing, title-same, same-title, rows-same, same-rows, items-same, same-items, language-same, same-language}
-use Rattle.notice.specs.declared.Record.{Record}
-use Rattle.notice.specs.declared.Reading.{Reading}
-use Rattle.notice.specs.Record.{validRecord}
-use Rattle.notice.specs.Reading.{accepted, reading}
+use Rattle.record.specs.declared.Record.{Record}
+use Rattle.record.specs.declared.Reading.{Reading}
+use Rattle.record.specs.Record.{validRecord}
+use Rattle.record.specs.Answer.{accepted}
+use Rattle.notice.specs.Reading.{reading}
 use Rattle.notice.specs.Same.{TellSame, SaysSame, sameRecord}
 use Rattle.notice.specs.Theorems.{read-valid}
 

@@ -6,15 +6,15 @@ use lib.ListN.{length}
 use native.Mathlib.Omega.{arith}
 use Rattle.text.specs.Laws.Base.{and-2}
 use Rattle.text.specs.Laws.Sizes.{size, total, total-append, ended-size}
-use Rattle.heading.specs.Heading.{validTitle}
-use Rattle.heading.specs.Laws.Addresses.{addresses-size}
-use Rattle.heading.specs.Laws.Filing.{filing-size}
-use Rattle.heading.specs.Laws.Heading.{heading-size, serial-size, aerodrome-size}
+use Rattle.frontlines.specs.Heading.{validTitle}
+use Rattle.frontlines.specs.Laws.Addresses.{addresses-size}
+use Rattle.frontlines.specs.Laws.Filing.{filing-size}
+use Rattle.frontlines.specs.Laws.Heading.{heading-size, serial-size, aerodrome-size}
 use Rattle.body.specs.Laws.Size.{rows-size}
 use Rattle.remarks.specs.Laws.Size.{remarks-size}
-use Rattle.notice.specs.declared.Record.{Record}
-use Rattle.notice.specs.Record.{validRecord}
-use Rattle.notice.specs.Notice.{noticeLines, notice, noticeText}
+use Rattle.record.specs.declared.Record.{Record}
+use Rattle.record.specs.Record.{validRecord}
+use Rattle.record.specs.Notice.{noticeLines, notice, noticeText}
 use Rattle.notice.specs.Laws.Parts.{Parts, partLines, Good, title-valid, partsOf, lines-are, valid-good}
 
 lines-size : (p : Parts) → Good p → suc (total (partLines p)) ≤ 4096

@@ -12,7 +12,7 @@ use Rattle.wording.proofs.put_taxiways.Kinds as put-taxiways-kinds
 use Rattle.wording.proofs.+put_taxiways.Lts-put_taxiways as put-taxiways-lts
 use Rattle.wording.proofs.put_name.Reads as put-name-reads
 use Rattle.wording.proofs.slot_end.Reads as slot-end-reads
-use Rattle.text.proofs.put.Reads as put-reads
+use Rattle.fill.proofs.put.Reads as put-reads
 use Rattle.wording.proofs.+put_taxiways.{statement}
 use Rattle.wording.proofs.+put_taxiways.Tie.{close}
 

@@ -1,0 +1,7 @@
+-- Definitions; the text part by part; tables that the checker evaluates.
+pub mod Record
+pub mod Notice
+pub mod Answer
+pub mod Fitted
+pub mod Laws
+pub mod Tables
