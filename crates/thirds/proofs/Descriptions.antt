@@ -1,14 +1,14 @@
--- Texts that begin alike, and the descriptions by their first byte.
-use Prim.Native.Nat.{ℕ, zero, suc, _≤_, _<_}
+-- Texts that begin alike, the descriptions by their first byte, and where each stands among all of them.
+use Prim.Native.Nat.{ℕ, zero, suc, _+_, _-_, _≤_, _<_}
 use mathlib.Core.Path.{_≡_, refl, sym, _∙_, ap}
 use mathlib.Core.List.{List, [], _∷_, _++_}
 use mathlib.Core.Bool.{Bool, true, false}
-use lib.Dec.{eqb}
-use lib.ListN.{length, drop, getD, drop-of-length-le}
+use lib.Dec.{eqb, leb}
+use lib.ListN.{length, take, drop, getD, drop-of-length-le}
 use lib.Seq.{drop-cons}
-use borrow.Author.Tests.{eqb-true, ne-eqb}
+use borrow.Author.Tests.{eqb-true, ne-eqb, leb-true}
 use native.Mathlib.Omega.{arith}
-use Rattle.text.specs.Choice.{pick}
+use Rattle.text.specs.Choice.{pick, _and_, sameBytes}
 use Rattle.text.specs.Piece.{gap, byte, canonical, canonical1, bytes, spell}
 use Rattle.text.specs.Read.{Got, misfit, got, orElse, readText}
 use Rattle.text.specs.Names.{readName}
@@ -16,6 +16,8 @@ use Rattle.text.specs.Texts.{Texts, readFirst, behind, named}
 use Rattle.text.specs.Held.{Held, none, readWord}
 use Rattle.text.specs.Put.{Put}
 use Rattle.text.specs.declared.Found.{Found}
+use Rattle.text.specs.Laws.Base.{and-1, and-2, below, below-at}
+use Rattle.text.specs.Laws.Same.{same-true}
 use Rattle.text.specs.Laws.Words.{first-cut}
 use Rattle.surface.specs.Descriptions.{waterOnCompactedSnow, dry, descriptionName}
 use Rattle.thirds.specs.Groups.{descriptionPieces, descriptionOrder, readDescription}
@@ -141,20 +143,48 @@ spelled (c ∷ cs) = go (eqb c 32) refl (spelled cs)
     go true e h = rw (eqb-true c 32 e, h)
     go false e h = rw h
 
--- the name of the description n, which is d
-pub put-named : (n : ℕ) {d at r : ℕ} {b x : List ℕ} → d ≡ n → Put at (descriptionName n) b x r → Put at (canonical (descriptionPieces d)) b x r
-put-named n {d} e p = rw (spelled (descriptionName d), e) p
+-- the texts of the descriptions below d, one behind the other
+abbrev joined : ℕ → List ℕ
+joined zero = []
+joined (suc d) = joined d ++ descriptionName d
+
+-- where each of those below d starts
+abbrev startsBelow : ℕ → List ℕ
+startsBelow zero = []
+startsBelow (suc d) = startsBelow d ++ (length (joined d) ∷ [])
+
+abbrev start : ℕ → ℕ
+start d = getD (startsBelow 17) d 0
+
+abbrev part : ℕ → List ℕ
+part d = take (start (d + 1) - start d) (drop (start d) (joined 16))
+
+-- the text of d stands between its start and the next
+pub record Stands (d : ℕ) : Type 0 where
+  pub ordered : start d ≤ start (d + 1)
+  pub within : start (d + 1) ≤ length (joined 16)
+  pub name : part d ≡ descriptionName d
+
+abbrev found : ℕ → Bool
+found d = leb (start d) (start (d + 1)) and (leb (start (d + 1)) (length (joined 16)) and sameBytes (part d) (descriptionName d))
+
+all-found : below found 16 ≡ true
+unfolding below _and_
+all-found = refl
+
+pub stands : (d : ℕ) → d ≤ dry → Stands d
+stands d h =
+    let t = below-at found 16 all-found d (omega arith) in
+    record {
+      ordered = leb-true _ _ (and-1 _ _ t);
+      within = leb-true _ _ (and-1 _ _ (and-2 _ _ t));
+      name = same-true _ _ (and-2 _ _ (and-2 _ _ t));
+    }
+
+-- put, it is the description's
+pub put-name : (d : ℕ) {at r : ℕ} {b x : List ℕ} → d ≤ dry → Put at (part d) b x r → Put at (canonical (descriptionPieces d)) b x r
+put-name d h p = rw (spelled (descriptionName d), ← stands d h .name) p
 
 -- past DRY there is none
 pub put-no-name : (d : ℕ) {at r : ℕ} {b x : List ℕ} → dry < d → Put at [] b x r → Put at (canonical (descriptionPieces d)) b x r
 put-no-name d h p = rw (spelled (descriptionName d), no-name d h) p
-
--- d is none of the numbers below n
-abbrev NoneBelow : ℕ → ℕ → Type 0
-NoneBelow d zero = Unit {0}
-NoneBelow d (suc n) = NoneBelow d n × (d ≡ n → ⊥)
-
--- so it is n or more
-pub none-below : (d n : ℕ) → NoneBelow d n → n ≤ d
-none-below d zero r = omega arith
-none-below d (suc n) r = omega (arith, none-below d n (r .0), r .1)

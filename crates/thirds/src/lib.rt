@@ -290,24 +290,10 @@ fn put_description(d: u32, out: &mut [u8], at: usize) -> usize
     if (description::DRY as u32) < d {
         return put(out, at, b"");
     }
-    match d as u8 {
-        description::NR => put(out, at, &texts::NR),
-        description::COMPACTED_SNOW => put(out, at, &texts::COMPACTED_SNOW),
-        description::DRY_SNOW => put(out, at, &texts::DRY_SNOW),
-        description::DRY_SNOW_ON_COMPACTED_SNOW => put(out, at, &texts::DRY_SNOW_ON_COMPACTED_SNOW),
-        description::DRY_SNOW_ON_ICE => put(out, at, &texts::DRY_SNOW_ON_ICE),
-        description::FROST => put(out, at, &texts::FROST),
-        description::ICE => put(out, at, &texts::ICE),
-        description::SLUSH => put(out, at, &texts::SLUSH),
-        description::STANDING_WATER => put(out, at, &texts::STANDING_WATER),
-        description::WATER_ON_COMPACTED_SNOW => put(out, at, &texts::WATER_ON_COMPACTED_SNOW),
-        description::WET => put(out, at, &texts::WET),
-        description::WET_ICE => put(out, at, &texts::WET_ICE),
-        description::WET_SNOW => put(out, at, &texts::WET_SNOW),
-        description::WET_SNOW_ON_COMPACTED_SNOW => put(out, at, &texts::WET_SNOW_ON_COMPACTED_SNOW),
-        description::WET_SNOW_ON_ICE => put(out, at, &texts::WET_SNOW_ON_ICE),
-        _ => put(out, at, &texts::DRY),
-    }
+    let starts = texts::STARTS;
+    let start = starts[d as usize] as usize;
+    let end = starts[d as usize + 1] as usize;
+    put(out, at, &texts::ALL[start..end])
 }
 
 // NR, or two digits, and three from 100 on.
