@@ -1,9 +1,8 @@
 #!/usr/bin/env python3
-"""A second reading of document 01's "A runway row" and agreement check, to compare the program rowed with.
+"""A second reading of document 01's "A runway row" and agreement check.
 
-    python3 compare/rows.py lines             writes the input of rowed: the edges, then seeded rows, good and damaged
-    python3 compare/rows.py lines SEED COUNT  writes COUNT seeded rows alone
-    python3 compare/rows.py answers < input   writes what rowed has to answer
+    python3 compare/rows.py lines             writes the rows of test_run's input, one a line: the edges, then seeded ones, good and damaged
+    python3 compare/rows.py answers < lines   writes what each is answered: 5, or 0, the number of disagreeing thirds and the canonical row
 
 The model takes a line apart before it judges anything: spaces first, then the number of slashes tells a short row from a full one.
 """
@@ -29,7 +28,7 @@ CONTAMINANTS = [
 DESCRIPTIONS = CONTAMINANTS + ["DRY", "NR"]
 COVERAGES = ["NR", "25", "50", "75", "100"]
 LEAST_DEPTH = {"STANDING WATER": 4, "SLUSH": 3, "WET SNOW": 3, "DRY SNOW": 3}
-# A longer line is no row, at the desk and for rowed.
+# A longer line is no row, at the desk and for test_run.
 LONG_LINE = 4096
 MONTH_DAYS = [31, 29, 31, 30, 31, 30, 31, 31, 30, 31, 30, 31]
 RUNWAYS = {"%02d%s" % (n, side) for n in range(1, 19) for side in ("", "L", "C", "R")}
@@ -262,7 +261,6 @@ def edges():
     plain += ["01120640 07R " + g for g in GROUPS]
     plain += ["01120640  07R   6/6/6  DRY/DRY/DRY", " " + GOOD, GOOD + " ", "\t" + GOOD, GOOD + "\t", " ", ")", "\x00", "\xff"]
     plain += ["01120640 07 L 6/6/6 DRY/DRY/DRY", "0112 0640 07 6/6/6 DRY/DRY/DRY", "01120640", "01120640 07", "0112064007 6/6/6 DRY/DRY/DRY"]
-    # the last is longer than a program reads at once
     plain += [long_row(n) for n in (LONG_LINE, LONG_LINE + 1, 70000)]
     ended = [(line, "\n") for line in plain]
     ended += [("", "\n"), ("", "\r\n"), ("\r", "\r\n"), (GOOD, "\r\n"), (GOOD, "\r\r\n"), (GOOD, "\r" + GOOD + "\n"), ("\r" + GOOD, "\n")]
@@ -330,8 +328,6 @@ def main(words):
     if words == ["lines"]:
         # The last line is left without an end.
         text = edges() + seeded(1, 300) + GOOD
-    elif len(words) == 3 and words[0] == "lines":
-        text = seeded(int(words[1]), int(words[2]))
     elif words == ["answers"]:
         text = "".join(answer(l) + "\n" for l in cut(sys.stdin.buffer.read().decode("latin-1")))
     else:

@@ -1,9 +1,5 @@
-//! The stored comparison: a framed file of messages, and what is to be answered for each.
-//!
-//! The messages by hand come with the number the documents give them; the generated ones follow.
+//! Messages at the edges: those by hand come with the number the documents give them, and generated ones follow.
 use crate::generate::{self, Rng};
-use crate::reader::{listing, read, same};
-use crate::text::split;
 
 pub const EXAMPLE: &str = "GG XQAAYNYX XQBBYOYX
 120645 XQAAYNYX
@@ -445,7 +441,7 @@ fn expanded(text: &str) -> String {
     SHORTHAND.iter().fold(text.to_string(), |text, (short, long)| text.replace(short, long))
 }
 
-/// All messages of the stored file: those by hand, then seeded ones.
+/// All of them: those by hand, then seeded ones.
 pub fn messages() -> Vec<Vec<u8>> {
     let mut messages: Vec<Vec<u8>> = by_hand().into_iter().map(|(message, _)| message).collect();
     let mut rng = Rng::new(1);
@@ -463,70 +459,4 @@ pub fn messages() -> Vec<Vec<u8>> {
     }
     messages.extend((0..64).map(|_| generate::damaged(&mut rng).message));
     messages
-}
-
-/// Each message as five digits with its length, LF, its bytes, LF.
-pub fn framed(messages: &[Vec<u8>]) -> Vec<u8> {
-    let mut file = Vec::new();
-    for message in messages {
-        file.extend(format!("{:05}\n", message.len()).into_bytes());
-        file.extend(message);
-        file.push(b'\n');
-    }
-    file
-}
-
-/// The messages of a framed file; none where it is framed otherwise.
-pub fn unframed(mut file: &[u8]) -> Option<Vec<&[u8]>> {
-    let mut messages = Vec::new();
-    while !file.is_empty() {
-        let (head, rest) = split(file, 6)?;
-        let length = std::str::from_utf8(head.strip_suffix(b"\n")?).ok()?.parse().ok()?;
-        let (message, rest) = split(rest, length)?;
-        messages.push(message);
-        file = rest.strip_prefix(b"\n")?;
-    }
-    Some(messages)
-}
-
-/// For each message its number in the file, its listing, whether it tells the same as the one before it (the first: as
-/// itself), and, if it was accepted, what writing it into a buffer one byte short answers.
-pub fn answers(messages: &[&[u8]]) -> Vec<u8> {
-    let mut told = Vec::new();
-    for (place, message) in messages.iter().enumerate() {
-        told.extend(format!("#{:04}\n", place + 1).into_bytes());
-        told.extend(listing(message));
-        let before = messages[place.saturating_sub(1)];
-        told.extend_from_slice(if same(before, message) { b"SAME\n" } else { b"DIFFERENT\n" });
-        if read(message).is_ok() {
-            told.extend_from_slice(b"14\n");
-        }
-    }
-    told
-}
-
-#[cfg(test)]
-mod tests {
-    use super::*;
-
-    #[test]
-    fn framing() {
-        let messages = messages();
-        let file = framed(&messages);
-        assert!(file.len() < 400_000);
-        assert!((300..=450).contains(&messages.len()), "{}", messages.len());
-        assert_eq!(unframed(&file), Some(messages.iter().map(Vec::as_slice).collect()));
-        assert_eq!(unframed(b"00002\nA\n"), None);
-    }
-
-    #[test]
-    fn answering() {
-        let messages = [EXAMPLE.as_bytes(), b"", EXAMPLE.as_bytes()];
-        let told = answers(&messages);
-        let listed = listing(EXAMPLE.as_bytes());
-        let expected =
-            [b"#0001\n", &listed[..], b"SAME\n14\n#0002\nREFUSED 2\nDIFFERENT\n#0003\n", &listed, b"DIFFERENT\n14\n"]
-                .concat();
-        assert_eq!(told, expected);
-    }
 }

@@ -5,17 +5,19 @@
 #![allow(clippy::new_without_default, clippy::should_implement_trait)]
 
 mod assess;
-pub mod assessed;
 pub mod desk;
 pub mod edges;
 pub mod generate;
 pub mod items;
 #[cfg(feature = "library")]
 mod library;
+mod models;
+mod observations;
 pub mod reader;
 pub mod report;
 pub mod row;
 #[cfg(feature = "library")]
 pub mod run;
 pub mod selfcheck;
+pub mod test_run;
 mod text;

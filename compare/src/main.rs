@@ -2,16 +2,14 @@
 use std::io::{self, Read, Write};
 use std::process::ExitCode;
 
-use compare::{assessed, desk, edges, generate, reader, selfcheck};
+use compare::{desk, generate, reader, selfcheck, test_run};
 
 const USAGE: &str = "\
 compare list < message           what the lister prints
 compare desk < input             what the desk program prints
-compare rows < lines             what the program rowed prints
-compare assessed                 what the program assessed prints
 compare desk-input SEED          writes a seeded input of the desk program
-compare edges-input              writes the stored messages, framed
-compare edges-answers < framed   what is to be answered for them
+compare test-input               writes the stored input of test_run
+compare test-answers < input     what test_run has to print
 compare self N SEED              the second reader against itself and the models in Python
 compare run N SEED               the proved library against the second reader (feature `library`)
 ";
@@ -26,15 +24,9 @@ fn answer(words: &[&str]) -> io::Result<ExitCode> {
     let output = match words {
         ["list"] => reader::listing(&input()?),
         ["desk"] => desk::desk(&input()?),
-        ["rows"] => selfcheck::rows(&input()?),
-        ["assessed"] => assessed::output(),
         ["desk-input", seed] => generate::desk_input(&mut generate::Rng::new(number(seed)?)),
-        ["edges-input"] => edges::framed(&edges::messages()),
-        ["edges-answers"] => {
-            let file = input()?;
-            let messages = edges::unframed(&file).ok_or_else(|| wrong("the input is not framed"))?;
-            edges::answers(&messages)
-        }
+        ["test-input"] => test_run::input()?,
+        ["test-answers"] => test_run::answers(&input()?).ok_or_else(|| wrong("the input is not framed"))?,
         ["self", count, seed] => return Ok(exit(selfcheck::run(number(count)? as usize, number(seed)?))),
         ["run", count, seed] => return run(number(count)? as usize, number(seed)?),
         _ => return Err(wrong(USAGE)),

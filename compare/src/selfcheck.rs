@@ -1,24 +1,15 @@
 //! The second reader against itself, and against the models in Python of rows and of the desk.
-use std::io::{self, Write};
-use std::process::{Command, Stdio};
-use std::thread;
+use std::io;
 
 use crate::assess::{agreement, assess};
 use crate::desk::desk;
 use crate::generate::{self, Rng, Sample};
+use crate::models;
 use crate::reader::{read, same, write, LONGEST_MESSAGE};
 use crate::report::Report;
 use crate::row::{Row, Runway, Third};
+use crate::test_run::row;
 use crate::text::lines;
-
-/// What the program `rowed` answers for lines of rows: 5, or 0, the count of disagreeing thirds and the canonical row.
-pub fn rows(input: &[u8]) -> Vec<u8> {
-    let answer = |line: &&[u8]| match Row::read(line) {
-        Some(row) if line.len() <= LONGEST_MESSAGE => format!("0 {} {}\n", agreement(&row).1, row.text()),
-        _ => "5\n".to_string(),
-    };
-    lines(input).iter().map(answer).collect::<String>().into_bytes()
-}
 
 fn message(rng: &mut Rng, report: &mut Report) {
     let Sample { message, record, number } = generate::message(rng);
@@ -76,48 +67,34 @@ fn numbers(rng: &mut Rng, report: &mut Report) {
     }
 }
 
-/// What a Python model answers, or why it cannot be asked. Built without cargo, it is looked for in the current directory.
-fn model(name: &str, input: Vec<u8>) -> io::Result<Vec<u8>> {
-    let path = format!("{}/{name}", option_env!("CARGO_MANIFEST_DIR").unwrap_or("."));
-    let mut child = Command::new("python3")
-        .env("PYTHONDONTWRITEBYTECODE", "1")
-        .args([&path, "answers"])
-        .stdin(Stdio::piped())
-        .stdout(Stdio::piped())
-        .spawn()?;
-    let mut stdin = child.stdin.take().ok_or(io::ErrorKind::BrokenPipe)?;
-    let feeding = thread::spawn(move || stdin.write_all(&input));
-    let output = child.wait_with_output()?;
-    feeding.join().map_err(|_| io::ErrorKind::Other)??;
-    if output.status.success() {
-        Ok(output.stdout)
-    } else {
-        Err(io::ErrorKind::Other.into())
-    }
-}
-
+/// Rows.py's own rows, and generated ones.
 fn row_model(rng: &mut Rng, count: usize, report: &mut Report) -> io::Result<()> {
+    row_lines("its own", &models::lines()?, report)?;
     let mut input = Vec::new();
     for _ in 0..count {
         input.extend(generate::row_line(rng, &[]));
         input.extend_from_slice(if rng.chance(20) { b"\r\n" } else { b"\n" });
     }
-    let told = rows(&input);
-    let expected = model("rows.py", input.clone())?;
-    let (told, expected) = (lines(&told), lines(&expected));
-    // They are compared in pairs, so that an answer without another would pass.
-    if told.len() != expected.len() {
-        report.differ("answers of rows.py", b"all rows", &expected.len().to_string(), &told.len().to_string());
+    row_lines("generated", &input, report)
+}
+
+fn row_lines(whose: &str, input: &[u8], report: &mut Report) -> io::Result<()> {
+    let expected = models::answers("rows.py", input.to_vec())?;
+    let (input, expected) = (lines(input), lines(&expected));
+    // They are compared in pairs, so that a row without an answer would pass.
+    if input.len() != expected.len() {
+        report.differ("answers of rows.py", b"all rows", &expected.len().to_string(), &input.len().to_string());
     }
-    let compared = told.len().min(expected.len());
     let mut refused = 0;
-    for ((line, told), expected) in lines(&input).iter().zip(told).zip(expected) {
+    for (&text, &expected) in input.iter().zip(&expected) {
+        let told = row(text);
+        let told = told.strip_suffix(b"\n").unwrap_or(&told);
         refused += usize::from(told == b"5");
         if told != expected {
-            report.differ("row", line, &expected.escape_ascii().to_string(), &told.escape_ascii().to_string());
+            report.differ("row", text, &expected.escape_ascii().to_string(), &told.escape_ascii().to_string());
         }
     }
-    println!("rows.py: {compared} rows, {refused} of them refused");
+    println!("rows.py: {} rows, {whose}, {refused} of them refused", input.len());
     Ok(())
 }
 
@@ -126,7 +103,7 @@ fn desk_model(rng: &mut Rng, count: usize, report: &mut Report) -> io::Result<()
     for _ in 0..count {
         let input = generate::desk_input(rng);
         let told = desk(&input);
-        let expected = model("desk.py", input.clone())?;
+        let expected = models::answers("desk.py", input.clone())?;
         opened += usize::from(told.starts_with(b"OPEN"));
         if told != expected {
             report.differ("desk", &input, &expected.escape_ascii().to_string(), &told.escape_ascii().to_string());

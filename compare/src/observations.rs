@@ -1,4 +1,4 @@
-//! What the program `assessed` prints: observations at the edges of document 01, and the third that is reported for each.
+//! What `test_run` prints of the assessor: observations at the edges of document 01, and the third that is reported for each.
 use crate::assess::{agrees, assess};
 use crate::row::{self, Third};
 

@@ -1,7 +1,7 @@
 use Prim.Native.Nat.{_≤_, _-_}
 use native.Mathlib.Omega.{arith}
-use Rattle.assessed.proofs.kinds.Statement.{statement}
-use Rattle.assessed.proofs.kinds.Tie as tie
+use Rattle.test_run.proofs.observations.kinds.Statement.{statement}
+use Rattle.test_run.proofs.observations.kinds.Tie as tie
 
 abbrev Inv-loop : tie.InvT-loop
 Inv-loop kind₀ kind = kind ≤ 17

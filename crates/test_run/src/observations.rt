@@ -1,6 +1,7 @@
-// Runs the assessor on each kind at the depths and signs that matter, and on each edge of the ranges. A line holds what was observed (kind,
+// The assessor, on each kind at the depths and signs that matter, and on each edge of the ranges. A line holds what was observed (kind,
 // cover, depth, slippery) and what is reported (refusal, code, coverage, depth, description), and then whether the third is valid and agrees.
-use libc::STDOUT_FILENO;
+use crate::output::print;
+use crate::output::print_digits;
 use surface::Observation;
 use surface::Third;
 use surface::agrees;
@@ -11,52 +12,42 @@ use surface::description::FROST;
 use surface::description::SLUSH;
 use surface::valid_third;
 
-fn digit(n: u16) -> u8 {
-    (n % 10) as u8 + b'0'
-}
-
 // Four digits and a space.
-fn put(n: u16) {
-    let text = [
-        digit(n / 1000),
-        digit(n / 100),
-        digit(n / 10),
-        digit(n),
-        b' ',
-    ];
-    io::write_all(STDOUT_FILENO, &text);
+fn print_number(n: u16) {
+    print_digits(4, n as u32);
+    print(b" ");
 }
 
-fn put_byte(n: u8) {
-    put(n as u16);
+fn print_byte(n: u8) {
+    print_number(n as u16);
 }
 
-fn put_bool(b: bool) {
+fn print_bool(b: bool) {
     if b {
-        put(1);
+        print_number(1);
     } else {
-        put(0);
+        print_number(0);
     }
 }
 
-fn put_third(t: Third) {
-    put_byte(t.code);
-    put_byte(t.coverage);
-    put(t.depth);
-    put_byte(t.description);
-    put_bool(valid_third(t));
-    put_bool(agrees(t));
+fn print_third(t: Third) {
+    print_byte(t.code);
+    print_byte(t.coverage);
+    print_number(t.depth);
+    print_byte(t.description);
+    print_bool(valid_third(t));
+    print_bool(agrees(t));
 }
 
 fn show(o: Observation) {
-    put_byte(o.kind);
-    put_byte(o.cover);
-    put(o.depth);
-    put_bool(o.slippery);
+    print_byte(o.kind);
+    print_byte(o.cover);
+    print_number(o.depth);
+    print_bool(o.slippery);
     let a = assess(o);
-    put_byte(a.refusal);
-    put_third(a.third);
-    io::write_all(STDOUT_FILENO, b"\n");
+    print_byte(a.refusal);
+    print_third(a.third);
+    print(b"\n");
 }
 
 fn at_depth(kind: u8, depth: u16, slippery: bool) {
@@ -112,7 +103,7 @@ fn covers() {
     at_cover(DRY, 1);
 }
 
-fn main() {
+pub fn print_observations() {
     kinds();
     covers();
     at_depth(SLUSH, 999, false);

@@ -1,7 +1,7 @@
 use Prim.Native.Nat.{_≤_, _-_}
 use native.Mathlib.Omega.{arith}
-use Rattle.assessed.proofs.covers.Statement.{statement}
-use Rattle.assessed.proofs.covers.Tie as tie
+use Rattle.test_run.proofs.observations.covers.Statement.{statement}
+use Rattle.test_run.proofs.observations.covers.Tie as tie
 
 abbrev Inv-loop : tie.InvT-loop
 Inv-loop cover₀ cover = cover ≤ 103

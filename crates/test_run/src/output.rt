@@ -1,0 +1,18 @@
+// Texts and numbers, printed.
+use libc::STDOUT_FILENO;
+use text::put_digits;
+
+const MOST_DIGITS: usize = 4;
+
+pub fn print(text: &[u8]) {
+    io::write_all(STDOUT_FILENO, text);
+}
+
+// The last `count` digits of a number.
+pub fn print_digits(count: u8, n: u32) {
+    let mut text = [0; MOST_DIGITS];
+    let end = put_digits(&mut text, 0, count, n);
+    if end <= MOST_DIGITS {
+        print(&text[0..end]);
+    }
+}

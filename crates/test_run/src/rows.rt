@@ -1,0 +1,41 @@
+// A row's text: the refusal, or 0, how many thirds disagree with Table 1, and the row's own text.
+use crate::output::print;
+use crate::output::print_digits;
+use row::LONGEST_ROW;
+use row::Row;
+use row::disagreeing;
+use row::read_row;
+use row::write_row;
+
+// A text over this is no row, as at the desk.
+const LONGEST: usize = 4096;
+
+fn print_canonical(row: Row) {
+    let mut text = [0; LONGEST_ROW];
+    let n = write_row(&mut text, row);
+    if n <= LONGEST_ROW {
+        print(&text[0..n]);
+    }
+}
+
+fn print_taken(row: Row) {
+    let a = disagreeing(row);
+    print(b" ");
+    print_digits(1, a.count as u32);
+    print(b" ");
+    print_canonical(row);
+}
+
+pub fn print_row(text: &[u8]) {
+    if LONGEST < text.len() {
+        print(b"5\n");
+        return;
+    }
+    let r = read_row(text);
+    print_digits(1, r.refusal as u32);
+    if r.refusal == 0 {
+        let row = r.row;
+        print_taken(row);
+    }
+    print(b"\n");
+}
