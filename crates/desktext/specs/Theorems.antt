@@ -10,12 +10,12 @@ use Rattle.text.specs.Choice.{pick}
 use Rattle.text.specs.Lines.{push, isReturn, lines}
 use Rattle.text.specs.Piece.{bytes}
 use Rattle.text.specs.Put.{Put}
-use Rattle.text.specs.Laws.Put.{whole-put}
+use Rattle.text.specs.Laws.Put.{put-one, whole-put}
 use Rattle.text.specs.Laws.Sizes.{size, number-size}
 use Rattle.row.specs.declared.Row.{Row}
 use Rattle.board.specs.declared.Board.{Board}
 use Rattle.desktext.specs.Laws.Desk.{shown-size}
-use Rattle.desktext.specs.Line.{openingLine, reportLine}
+use Rattle.desktext.specs.Line.{shownText, openingLine, reportLine}
 use Rattle.board.specs.Report.{rowAt}
 use Rattle.desktext.specs.Desk.{printed, answerLine, shownRows, answersText, refusedText, linesText, deskText}
 

@@ -18,6 +18,7 @@ use Rattle.items.specs.declared.Language.{Language}
 use Rattle.items.specs.Parts.{itemsOf, languageOf, makeLanguage}
 use Rattle.remarks.specs.Remarks.{languageLines, remarkLines}
 use Rattle.text.specs.Laws.Put.{over-zeros, nothing-put}
+use Rattle.text.specs.Laws.Arrays.{none-taken}
 
 -- plain language that was put over zeros
 pub language-put-in : (l b : List ℕ) → length l ≤ 400 → b ≡ sets (replicate 400 0) 0 l → record { length = length l; bytes = b } ≡ makeLanguage l

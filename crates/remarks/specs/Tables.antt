@@ -8,11 +8,11 @@ use Rattle.text.specs.Choice.{_and_}
 use Rattle.text.specs.Piece.{bytes}
 use Rattle.text.specs.Names.{isMark}
 use Rattle.text.specs.Lines.{endSize, lineSize, lineStep, closed, front}
-use Rattle.text.specs.Out.{refuse, taken}
+use Rattle.text.specs.Out.{more, refuse, taken}
 use Rattle.items.specs.Item.{letterJ}
 use Rattle.items.specs.ReadItem.{bareItem}
 use Rattle.items.specs.Language.{lastIs, validLanguage}
-use Rattle.remarks.specs.Remarks.{remarks}
+use Rattle.remarks.specs.Remarks.{readLanguageLine, readRemarks, remarks}
 use Rattle.remarks.specs.declared.Tail.{Tail}
 use Rattle.remarks.specs.Held.{noRemarks, remarksAnswer, noTail, ending, lastItems, lastLanguage, nextLanguage, itemsStep, joined}
 

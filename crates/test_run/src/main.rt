@@ -12,7 +12,7 @@ use libc::STDIN_FILENO;
 use messages::print_message;
 use observations::print_observations;
 use rows::print_row;
-use text::digits;
+use scan::digits;
 
 const ROOM: usize = 400000;
 

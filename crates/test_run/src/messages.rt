@@ -3,7 +3,7 @@
 use crate::output::print;
 use crate::output::print_digits;
 use listing::list;
-use notice::Record;
+use record::Record;
 use notice::read;
 use notice::same;
 use notice::write;

@@ -1,6 +1,6 @@
 // Texts and numbers, printed.
 use libc::STDOUT_FILENO;
-use text::put_digits;
+use fill::put_digits;
 
 const MOST_DIGITS: usize = 4;
 

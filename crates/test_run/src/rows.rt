@@ -1,14 +1,12 @@
 // A row's text: the refusal, or 0, how many thirds disagree with Table 1, and the row's own text.
 use crate::output::print;
 use crate::output::print_digits;
-use row::LONGEST_ROW;
+use rowtext::LONGEST_ROW;
 use row::Row;
 use row::disagreeing;
-use row::read_row;
-use row::write_row;
-
-// A text over this is no row, as at the desk.
-const LONGEST: usize = 4096;
+use rowtext::read_row;
+use rowtext::write_row;
+use text::LONGEST;
 
 fn print_canonical(row: Row) {
     let mut text = [0; LONGEST_ROW];
