@@ -21,6 +21,7 @@ use Rattle.board.specs.Report.{reports}
 use Rattle.boardnotice.specs.Writing.{reported, recordOf, writingBoard, writtenBoard, WroteBoard}
 use Rattle.board.specs.Shows.{Apart}
 use Rattle.boardnotice.specs.Laws.Writing.{detailsOf, board-written}
+use Rattle.board.specs.Theorems.{order-free}
 
 -- boards that were opened alike and got the same reports in another order, of which no two different valid ones for a runway of the list bear the same time:
 -- with the same details, items, plain language and buffer they give the same refusal, or the same notice byte for byte

@@ -4,7 +4,7 @@ use mathlib.Core.List.{List, []}
 use lib.Dec.{eqb, leb}
 use lib.ListN.{length}
 use Rattle.text.specs.Choice.{pick}
-use Rattle.text.specs.Lines.{lines}
+use Rattle.text.specs.Lines.{longest, lines}
 use Rattle.row.specs.declared.Row.{Row}
 use Rattle.frontlines.specs.Addresses.{readAddresses}
 use Rattle.frontlines.specs.Filing.{readFiling}
@@ -15,6 +15,7 @@ use Rattle.remarks.specs.Remarks.{readRemarks}
 use Rattle.record.specs.declared.Record.{Record}
 use Rattle.record.specs.declared.Reading.{Reading}
 use Rattle.record.specs.Record.{makeRecord}
+use Rattle.record.specs.Answer.{accepted, refused, mismatch}
 
 -- the record, where they agree
 unfoldable pub agreeing : Heading → ℕ → List ℕ → List Row → Record → Out Record
