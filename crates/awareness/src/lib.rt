@@ -16,6 +16,7 @@ ghost use Rattle.items.specs.ItemText.{edgeName};
 ghost use Rattle.items.specs.ReadItem.{openings, openingName, sayings, saying, taxiSayings, taxiSaying, edges, readLength, readBank, readDetail, readRunwayForm, runwayItem, readTaxiway, readSomeTaxiways, readTaxiForm, isApron, apronItem, readApronForm, readForm, readBody};
 ghost use Rattle.awareness.specs.Held.{Reads, HeldDetail, HeldItem, noItem, itemsAnswer};
 ghost use Rattle.awareness.specs.Named.{inSlots, bareFound};
+use fill::put;
 use items::APRON_SIZE;
 use items::Item;
 use items::MOST_ITEMS;
@@ -27,18 +28,17 @@ use items::numbers_fit;
 use items::valid_item;
 use runway::read_runway;
 use scan::CAPITALS_AND_DIGITS;
-use text::Found;
 use scan::LETTERS;
-use text::NO_SPAN;
-use text::NONE;
-use text::Span;
 use scan::counted;
 use scan::digits;
-use text::place;
-use fill::put;
 use scan::run;
 use scan::spaces;
 use scan::word;
+use text::Found;
+use text::NO_SPAN;
+use text::NONE;
+use text::Span;
+use text::place;
 
 // An item at a place of a text, and the place behind it.
 struct ItemFound {

@@ -13,18 +13,18 @@ ghost use Rattle.row.specs.Row.{validRow, isBlankRow};
 ghost use Rattle.rowtext.specs.Text.{rowPieces};
 ghost use Rattle.body.specs.Rows.{sameRunway, isAmong, newRunways, latestOf, latest, rowsOf, makeRows, validRows};
 ghost use Rattle.body.specs.Held.{rowLine, noRows, rowsAnswer, RowsHeld};
+use fill::put;
+use fill::told_behind;
 use row::Row;
 use row::blank_row;
 use row::is_blank_row;
+use row::valid_row;
 use rowtext::put_any_row;
 use rowtext::read_row;
-use row::valid_row;
 use runway::is_later;
 use text::first_line;
 use text::is_closed;
 use text::place;
-use fill::put;
-use fill::told_behind;
 
 // 1 to 8 rows, zeros past the count.
 pub struct Rows {

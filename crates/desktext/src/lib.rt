@@ -24,7 +24,6 @@ use fill::put;
 use fill::put_number;
 use fill::told_behind;
 use frontlines::read_aerodrome;
-use text::LONGEST;
 use row::Row;
 use row::blank_row;
 use row::valid_row;
@@ -34,6 +33,7 @@ use rowtext::read_row;
 use runway::NO_RUNWAY;
 use runway::RunwayFound;
 use runway::read_runway;
+use text::LONGEST;
 use text::first_line;
 use text::place;
 

@@ -7,6 +7,8 @@ ghost use Rattle.text.specs.Put.{Put};
 ghost use Rattle.frontlines.specs.Filing.{filingPieces};
 ghost use Rattle.frontlines.specs.Heading.{headingPieces, serialPieces, aerodromePieces};
 ghost use Rattle.front.specs.Front.{blankFront, lineRefusal, frontAnswer, frontText, FrontHeld};
+use fill::put;
+use fill::told_behind;
 use frontlines::Addresses;
 use frontlines::Filing;
 use frontlines::Title;
@@ -22,8 +24,6 @@ use frontlines::read_heading;
 use frontlines::read_serial;
 use text::first_line;
 use text::place;
-use fill::put;
-use fill::told_behind;
 
 // ---- Reading
 

@@ -16,19 +16,19 @@ ghost use Rattle.frontlines.specs.Addresses.{priorities, priorityName, a
 ghost use Rattle.frontlines.specs.Filing.{realFiling, readFilingTime, readFiling, filingPieces, validFiling};
 ghost use Rattle.frontlines.specs.Heading.{isSerial, readSerial, readTime, designatorPieces, readHeading, headingPieces, validTitle, readSerialLine, serialPieces, readAerodrome, aerodromePieces};
 ghost use Rattle.frontlines.specs.Answers.{Designated, listAnswer, addressesAnswer, filingAnswer, headingAnswer, aerodromeAnswer};
+use fill::put;
+use fill::put_digits;
 use runway::real_clock;
 use runway::real_time;
-use text::Found;
 use scan::LETTERS;
+use scan::counted;
+use scan::digits;
+use scan::word;
+use scan::zeros_from;
+use text::Found;
 use text::NO_SPAN;
 use text::NONE;
 use text::Span;
-use scan::counted;
-use scan::digits;
-use fill::put;
-use fill::put_digits;
-use scan::word;
-use scan::zeros_from;
 
 // Line 1. Zeros stand past the last address.
 pub struct Addresses {

@@ -13,12 +13,12 @@ ghost use Rattle.items.specs.Awareness.{sameRunway, otherApron, mayRepea
 ghost use Rattle.items.specs.Parts.{holdsItems, holdsLanguage};
 ghost use Rattle.items.specs.Language.{validLanguage, validLanguageArray};
 ghost use Rattle.items.specs.Held.{SlotEnd};
+use fill::put;
 use runway::valid_runway;
 use scan::CAPITALS_AND_DIGITS;
 use scan::LETTERS;
 use scan::all_plain;
 use scan::counted;
-use fill::put;
 use scan::run;
 use scan::same_bytes;
 use scan::zeros_from;

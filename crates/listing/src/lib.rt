@@ -6,14 +6,14 @@ ghost use Rattle.record.specs.Notice.{noticeText};
 ghost use Rattle.listing.specs.Listing.{disagreeingThirds, counted, acceptedLine, refusedLine, listing};
 use body::MOST_ROWS;
 use body::Rows;
-use record::Record;
-use record::put_notice;
-use notice::read;
-use row::disagreements;
-use text::place;
 use fill::put;
 use fill::put_number;
 use fill::told_behind;
+use notice::read;
+use record::Record;
+use record::put_notice;
+use row::disagreements;
+use text::place;
 
 // Those of all rows together.
 fn disagreeing_thirds(r: Rows) -> u8

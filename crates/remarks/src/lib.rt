@@ -13,6 +13,8 @@ ghost use Rattle.items.specs.Parts.{itemsOf, languageOf, makeLanguage};
 ghost use Rattle.remarks.specs.Remarks.{languageLines, remarkLines, readRemarks};
 ghost use Rattle.remarks.specs.Held.{noRemarks, remarksAnswer, noTail, ending, lastItems, lastLanguage, nextLanguage, itemsStep};
 use awareness::read_awareness;
+use fill::put;
+use fill::told_behind;
 use items::Items;
 use items::Language;
 use items::blank_item;
@@ -21,8 +23,6 @@ use items::valid_language;
 use text::first_line;
 use text::is_closed;
 use text::place;
-use fill::put;
-use fill::told_behind;
 use wording::put_awareness;
 
 // Neither items nor plain language.

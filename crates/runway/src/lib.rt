@@ -7,9 +7,9 @@ ghost use Rattle.text.specs.Put.{Put};
 ghost use Rattle.runway.specs.Time.{isShortMonth, daysOf, realDay, realClock, realTime, later};
 ghost use Rattle.runway.specs.Runway.{sideName, validRunway, runwayPieces, readSide, readRunway};
 ghost use Rattle.runway.specs.Held.{HeldSide, HeldRunway};
-use scan::digits;
 use fill::put;
 use fill::put_digits;
+use scan::digits;
 
 // A runway that stands at a place of a text, and the place behind it.
 pub struct RunwayFound {

@@ -2,18 +2,18 @@
 ghost use mathlib.Core.Path.{_≡_};
 ghost use Rattle.text.specs.Choice.{sameAll};
 ghost use Rattle.sameness.specs.Same.{sameAddresses, sameFiling, sameTitle, sameThird, sameRow, sameRows, sameNumbers, sameItem, sameItems, sameLanguage};
-use items::Items;
-use items::Language;
 use body::MOST_ROWS;
 use body::Rows;
 use frontlines::Addresses;
 use frontlines::Filing;
 use frontlines::Title;
 use items::Item;
+use items::Items;
+use items::Language;
 use items::MOST_ITEMS;
 use row::Row;
-use surface::Third;
 use scan::same_bytes;
+use surface::Third;
 
 // ---- Lines 1 to 3
 

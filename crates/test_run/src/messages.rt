@@ -3,10 +3,10 @@
 use crate::output::print;
 use crate::output::print_digits;
 use listing::list;
-use record::Record;
 use notice::read;
 use notice::same;
 use notice::write;
+use record::Record;
 
 const LONGEST_LISTING: usize = 8192;
 

@@ -1,6 +1,6 @@
 // Texts and numbers, printed.
-use libc::STDOUT_FILENO;
 use fill::put_digits;
+use libc::STDOUT_FILENO;
 
 const MOST_DIGITS: usize = 4;
 

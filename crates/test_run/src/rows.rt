@@ -1,9 +1,9 @@
 // A row's text: the refusal, or 0, how many thirds disagree with Table 1, and the row's own text.
 use crate::output::print;
 use crate::output::print_digits;
-use rowtext::LONGEST_ROW;
 use row::Row;
 use row::disagreeing;
+use rowtext::LONGEST_ROW;
 use rowtext::read_row;
 use rowtext::write_row;
 use text::LONGEST;

@@ -8,14 +8,14 @@ ghost use Rattle.text.specs.Texts.{readFirst};
 ghost use Rattle.thirds.specs.Groups.{measurePieces, readMeasure, readCoverage, descriptionPieces, readDescription, thirdPieces, readThird, groupPieces, readGroup};
 ghost use Rattle.thirds.specs.Parts.{onTop, snows, behindDry, dries, behindWet, wets};
 ghost use Rattle.thirds.specs.Held.{HeldThree, Tried, Kept, jointText};
+use fill::put;
+use fill::put_digits;
+use scan::digits;
+use scan::word;
 use surface::description;
 use text::Found;
 use text::NONE;
-use scan::digits;
 use text::place;
-use fill::put;
-use fill::put_digits;
-use scan::word;
 
 mod texts;
 

@@ -11,16 +11,16 @@ ghost use Rattle.items.specs.Awareness.{awarenessPieces};
 ghost use Rattle.items.specs.Item.{nameAtFront};
 ghost use Rattle.items.specs.ItemText.{edgeName, ofRunway, lengthText, bankText, ofTaxiways, poorTaxiways, poorApron, itemText, itemPieces};
 ghost use Rattle.wording.specs.Slots.{FrontSlot, taxiwayNames};
+use fill::put;
+use fill::put_digits;
+use fill::told_behind;
 use items::Item;
 use items::MOST_ITEMS;
 use items::TAXIWAY_SIZE;
 use runway::put_runway;
 use scan::CAPITALS_AND_DIGITS;
 use scan::counted;
-use fill::put;
-use fill::put_digits;
 use scan::run;
-use fill::told_behind;
 
 // ---- Writing an item
 
