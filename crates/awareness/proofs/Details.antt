@@ -6,11 +6,11 @@ use mathlib.Core.Bool.{Bool, true, false}
 use native.Mathlib.Omega.{arith}
 use lib.ListN.{drop}
 use Rattle.text.specs.Choice.{pick, _and_}
-use Rattle.text.specs.Read.{Got, misfit, got, guard, readText, readGap, readIf}
+use Rattle.text.specs.Read.{Got, misfit, got, guard, readText, readGap, readIf, readWord}
 use Rattle.text.specs.Names.{readName}
 use Rattle.text.specs.Texts.{named}
 use Rattle.text.specs.Numbers.{readDigits, readNumber}
-use Rattle.text.specs.Held.{Held, none, readWord}
+use Rattle.text.specs.Code.Held.{Held, none}
 use Rattle.text.specs.Laws.Held.{held-text}
 use Rattle.text.specs.Laws.Numbers.{number-laws, digits-laws}
 use Rattle.text.specs.Laws.Words.{first-cut}
@@ -18,10 +18,10 @@ use Rattle.text.specs.declared.Found.{Found}
 use Rattle.items.specs.Item.{validItem}
 use Rattle.items.specs.ItemText.{edgeName}
 use Rattle.items.specs.ReadItem.{edges, sayings, saying, taxiSayings, taxiSaying}
-use Rattle.runway.specs.Held.{HeldRunway}
+use Rattle.runway.specs.Code.Held.{HeldRunway}
 use Rattle.runway.specs.declared.RunwayFound.{RunwayFound}
 use Rattle.items.specs.declared.Item.{Item}
-use Rattle.awareness.specs.Held.{Reads, HeldItem, noItem}
+use Rattle.awareness.specs.Code.Held.{Reads, HeldItem, noItem}
 use Rattle.awareness.specs.declared.ItemFound.{ItemFound}
 use Rattle.awareness.proofs.Names.{unspaced, name-low}
 

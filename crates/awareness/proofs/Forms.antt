@@ -9,18 +9,18 @@ use lib.ListN.{length, drop, replicate}
 use borrow.Author.Tests.{leb-true, eq-eqb}
 use Rattle.text.specs.Choice.{pick, _and_, all, isEmpty}
 use Rattle.text.specs.Piece.{bytes}
-use Rattle.text.specs.Read.{Got, misfit, got, guard, andThen, readText, readAs, readIf, readGap, readBefore}
+use Rattle.text.specs.Read.{Got, misfit, got, guard, andThen, readText, readAs, readIf, readGap, readBefore, readWord}
 use Rattle.text.specs.Names.{isName, past, readName}
 use Rattle.text.specs.Arrays.{isZero}
-use Rattle.text.specs.Held.{Held, readWord}
+use Rattle.text.specs.Code.Held.{Held}
 use Rattle.text.specs.Laws.Base.{and-1, and-2, and-i, and-true, then-got, carry}
 use Rattle.text.specs.Laws.Arrays.{pad-length, replicate-zeros}
 use Rattle.text.specs.declared.Found.{Found}
 use Rattle.items.specs.declared.Item.{Item}
 use Rattle.items.specs.Item.{letterJ, letterP, letterR, onRunway, runwayFits, amountFits, edgeFits, countFits, slotsFit, taxiwaysFit, nameFits, numbersFit, validItem}
 use Rattle.items.specs.ReadItem.{runwayItem, taxiSayings, taxiSaying, taxiItem, readSomeTaxiways, readTaxiways, readTaxiForm, isApron, readApron, apronItem, readApronForm, openings, openingName, bareItem, readBareForm, readForm, readBody, readItem}
-use Rattle.awareness.specs.Held.{HeldItem, noItem}
-use Rattle.awareness.specs.Named.{inSlots, bareFound}
+use Rattle.awareness.specs.Code.Held.{HeldItem, noItem}
+use Rattle.awareness.specs.Code.Named.{inSlots, bareFound}
 use Rattle.awareness.specs.declared.ItemFound.{ItemFound}
 use Rattle.awareness.specs.Laws.Held.{item-of, misfit-of}
 use Rattle.awareness.proofs.Names.{name-low}

@@ -10,14 +10,14 @@ use lib.Seq.{drop-cons, length-take-le, take-suc-set}
 use Rattle.text.specs.Arrays.{pad}
 use Rattle.text.specs.Read.{Got, misfit, got, guard, andThen, whole, skip, oneMore, readText, readLoose, readMany}
 use Rattle.text.specs.Names.{readName}
-use Rattle.text.specs.Held.{Reached}
+use Rattle.text.specs.Code.Held.{Reached}
 use Rattle.text.specs.Laws.Base.{skip-stops}
 use Rattle.text.specs.Laws.Arrays.{pad-length, pad-more}
 use Rattle.items.specs.declared.Item.{Item}
 use Rattle.items.specs.ReadItem.{readItem, readBody}
 use Rattle.items.specs.Awareness.{inOrder, standsBehind, mostItems, blankItem, readAwareness, wholeAwareness}
 use Rattle.items.specs.Laws.Order.{order-on, order-off}
-use Rattle.awareness.specs.Held.{itemsAnswer}
+use Rattle.awareness.specs.Code.Held.{itemsAnswer}
 
 -- up to n items more: the first of them stands at the front of k, and where it does not, m is left
 abbrev moreItems : ℕ → List ℕ → List ℕ → Got (List Item)

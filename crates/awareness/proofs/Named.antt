@@ -9,7 +9,7 @@ use lib.Seq.{drop-drop}
 use Rattle.text.specs.Choice.{pick, all}
 use Rattle.text.specs.Read.{Got, misfit, got, guard, andThen, readText, readGap, readIf, readBefore}
 use Rattle.text.specs.Names.{isName, past, readRun}
-use Rattle.text.specs.Held.{Reached, Spanned, noSpan}
+use Rattle.text.specs.Code.Held.{Reached, Spanned, noSpan}
 use Rattle.text.specs.Laws.Base.{then-got, guard-got, carry}
 use Rattle.text.specs.Laws.Held.{part-all}
 use Rattle.text.specs.declared.Span.{Span}

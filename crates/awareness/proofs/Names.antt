@@ -7,9 +7,9 @@ use lib.Dec.{leb}
 use lib.ListN.{drop}
 use borrow.Author.Tests.{leb-true}
 use Rattle.text.specs.Choice.{all}
-use Rattle.text.specs.Read.{Got, misfit, got, orElse, andThen, readText}
+use Rattle.text.specs.Read.{Got, misfit, got, orElse, andThen, readText, readWord}
 use Rattle.text.specs.Names.{readName}
-use Rattle.text.specs.Held.{Held, readWord}
+use Rattle.text.specs.Code.Held.{Held}
 use Rattle.text.specs.Laws.Base.{no-misfit, carry, and-1, and-2}
 use Rattle.text.specs.Laws.Held.{got-of, misfit-of}
 use Rattle.text.specs.declared.Found.{Found}

@@ -13,7 +13,7 @@ use Rattle.text.specs.Laws.Arrays.{pad-length}
 use Rattle.text.specs.Laws.Put.{sets-join, over-zeros}
 use Rattle.items.specs.Item.{isTaxiway}
 use Rattle.items.specs.ReadItem.{readTaxiway, readSomeTaxiways}
-use Rattle.awareness.specs.Named.{inSlots}
+use Rattle.awareness.specs.Code.Named.{inSlots}
 use Rattle.awareness.proofs.Named.{name-passed}
 
 -- how long taxiways are, and their slots

@@ -8,8 +8,8 @@ use Rattle.text.specs.Piece.{bytes}
 use Rattle.text.specs.Read.{misfit, got}
 use Rattle.items.specs.Item.{letterJ, letterP}
 use Rattle.items.specs.ReadItem.{bareItem}
-use Rattle.awareness.specs.Held.{noDetail, noItem, itemsAnswer}
-use Rattle.awareness.specs.Named.{inSlots, bareFound}
+use Rattle.awareness.specs.Code.Held.{noDetail, noItem, itemsAnswer}
+use Rattle.awareness.specs.Code.Named.{inSlots, bareFound}
 
 -- three bytes for each, zeros behind a shorter one and behind the last
 pub held : inSlots (bytes "A" ∷ bytes "B12" ∷ []) ≡ (2, bytes "A" ++ (0 ∷ 0 ∷ (bytes "B12" ++ replicate 18 0)))

@@ -13,6 +13,7 @@ use Rattle.frontlines.specs.Heading.{aerodromeSize}
 use Rattle.board.specs.declared.Runway.{Runway}
 use Rattle.board.specs.declared.Board.{Board}
 use Rattle.board.specs.declared.Answer.{Answer}
+use Rattle.text.specs.Refusals.{wrongBoard}
 
 -- "1 to 8 runways", "eight places"
 abbrev pub places : ℕ
@@ -90,10 +91,6 @@ fresh aerodrome count runways = record { aerodrome = aerodrome; count = count; r
 -- a refusal number, 0 for taken, and the board afterwards
 abbrev pub answer : ℕ → Board → Answer
 answer n b = record { refusal = n; board = b }
-
--- "17: aerodrome or runway list wrong, or a board handed in that breaks its rules"
-abbrev pub wrongBoard : ℕ
-wrongBoard = 17
 
 -- "A refused opening yields the blank board"
 abbrev pub refusedOpening : Answer

@@ -15,7 +15,7 @@ use Rattle.board.specs.Shows.{shownAt, Shows, Apart}
 use Rattle.board.specs.Laws.Shows.{shows-one, shows-moved, permuted}
 use Rattle.board.specs.Laws.Rules.{takes, report-board, taken-0, reports-valid, SameList, reports-list}
 use Rattle.board.specs.Laws.Step.{again-20}
-use Rattle.board.specs.Laws.Demand.{shows-after, nothing-at, same-board, opened}
+use Rattle.board.specs.Laws.Demand.{shows-after, nothing-at, same-board, opened-fresh}
 
 -- opening takes a list exactly if it is valid
 pub opens : (a : List ℕ) (n : ℕ) (ws : List Runway) → validList a n ws ≡ true → opening a n ws ≡ answer 0 (fresh a n ws)
@@ -26,24 +26,24 @@ pub refuses : (a : List ℕ) (n : ℕ) (ws : List Runway) → validList a n ws �
 unfolding opening
 refuses a n ws h = rw h
 
--- the board b was opened with the aerodrome a and the n runways of ws
+-- the board b was opened-fresh with the aerodrome a and the n runways of ws
 module _ (a : List ℕ) (n : ℕ) (ws : List Runway) (b : Board) (taken : opening a n ws ≡ answer 0 b) where
   -- after any list of reports, valid or not, the board's rules hold
   pub rules-hold : (rs : List Row) → validBoard (reports b rs) ≡ true
-  rules-hold rs = reports-valid b rs (opened a n ws b taken .1)
+  rules-hold rs = reports-valid b rs (opened-fresh a n ws b taken .1)
 
   -- the aerodrome and the list never change
   pub list-stays : (rs : List Row) → (reports b rs .aerodrome ≡ a) × (reports b rs .count ≡ n) × (reports b rs .runways ≡ ws)
   list-stays rs =
       let s = reports-list b rs in
-      let o = opened a n ws b taken .0 in
+      let o = opened-fresh a n ws b taken .0 in
       (s .aerodrome ∙ ap (λ x. x .aerodrome) o, s .count ∙ ap (λ x. x .count) o, s .runways ∙ ap (λ x. x .runways) o)
 
   -- each runway shows of the valid reports that name it the one observed last, among equal times the first to arrive, and nothing where there is none
   pub runway-shows : (rs : List Row) (i : ℕ) → i < n → Shows (getD ws i blankRunway) rs (shownAt (reports b rs) i)
   runway-shows rs i l =
       let w = getD ws i blankRunway in
-      let (o, v) = opened a n ws b taken in
+      let (o, v) = opened-fresh a n ws b taken in
       let c = ap (λ x. x .count) o in
       shows-after b w [] rs i v (omega arith) (ap (λ x. getD (x .runways) i blankRunway) o) (subst (λ x. Shows w [] (shownAt x i)) (sym o) (nothing-at w i))
 

@@ -10,13 +10,13 @@ ghost use Rattle.board.specs.Board.{isAerodrome, blankRunway, isBlankRun
 ghost use Rattle.board.specs.Report.{placeOf, isNews, report};
 use frontlines::read_aerodrome;
 use row::HIGHEST_RUNWAY;
-use row::INVALID_ROW;
 use row::Row;
 use row::blank_row;
 use row::is_blank_row;
 use row::valid_row;
 use runway::is_later;
 use runway::valid_runway;
+use text::refusal;
 
 pub struct Runway {
     pub number: u8,
@@ -41,13 +41,6 @@ pub struct Answer {
 pub const PLACES: usize = 8;
 
 pub const MOST_RUNWAYS: u8 = 8;
-
-// Refusal numbers.
-pub const WRONG_BOARD: u8 = 17;
-
-const NOT_ON_BOARD: u8 = 18;
-
-const NOT_LATER: u8 = 20;
 
 pub const BLANK_RUNWAY: Runway = Runway { number: 0, side: 0 };
 
@@ -223,7 +216,7 @@ pub fn refused_opening() -> Answer
 {
     let b = blank_board();
     Answer {
-        refusal: WRONG_BOARD,
+        refusal: refusal::WRONG_BOARD,
         board: b,
     }
 }
@@ -297,22 +290,22 @@ pub fn report(b: Board, r: Row) -> Answer
                     };
                 }
                 return Answer {
-                    refusal: NOT_LATER,
+                    refusal: refusal::NOT_LATER,
                     board: b,
                 };
             }
             return Answer {
-                refusal: NOT_ON_BOARD,
+                refusal: refusal::NOT_ON_BOARD,
                 board: b,
             };
         }
         return Answer {
-            refusal: INVALID_ROW,
+            refusal: refusal::INVALID_ROW,
             board: b,
         };
     }
     Answer {
-        refusal: WRONG_BOARD,
+        refusal: refusal::WRONG_BOARD,
         board: b,
     }
 }

@@ -22,8 +22,9 @@ use Rattle.notice.specs.declared.Written.{Written}
 use Rattle.notice.specs.Writing.{unwritten, writing, written, Wrote}
 use Rattle.board.specs.declared.Board.{Board}
 use Rattle.boardnotice.specs.declared.Details.{Details}
-use Rattle.board.specs.Board.{places, validBoard, wrongBoard}
-use Rattle.boardnotice.specs.Writing.{reported, recordOf, noReport, writingBoard, writtenBoard, WroteBoard}
+use Rattle.board.specs.Board.{places, validBoard}
+use Rattle.text.specs.Refusals.{wrongBoard, noReport}
+use Rattle.boardnotice.specs.Writing.{reported, boardRecord, writingBoard, writtenBoard, WroteBoard}
 use Rattle.boardnotice.specs.Laws.Writing.{few-reported}
 use Rattle.text.specs.Laws.Arrays.{next-place}
 
@@ -64,7 +65,7 @@ module _ (b : Board) (d : Details) (i : Items) (l : Language) where
   unfolding writingBoard writtenBoard
   wrote-17 h = record { answer = rw h; holds = rw h }
 
-  module _ (v : validBoard b ≡ true) {r : Record} (e : r ≡ recordOf b d i l) where
+  module _ (v : validBoard b ≡ true) {r : Record} (e : r ≡ boardRecord b d i l) where
     counts : isEmpty (reported (b .rows)) ≡ eqb (r .rows .count) 0
     counts = none-shown (reported (b .rows)) ∙ sym (ap (λ (s : Record). eqb (s .rows .count) 0) e)
 

@@ -16,7 +16,7 @@ use Rattle.body.specs.Rows.{makeRows}
 use Rattle.boardnotice.specs.declared.Details.{Details}
 use Rattle.board.specs.Board.{isBlankRunway, comesBefore, rises, rising, isAerodrome, validList, names, fitsPlace, fitPlaces, validPlaces, validBoard, blankBoard}
 use Rattle.board.specs.Report.{placeOf, isNews, report, reports}
-use Rattle.boardnotice.specs.Writing.{reported, recordOf, writingBoard, writtenBoard}
+use Rattle.boardnotice.specs.Writing.{reported, boardRecord, writingBoard, writtenBoard}
 use Rattle.board.specs.Tables.{board, dryRow, holding, left, right}
 
 -- "Writing a board: 17, 21": before anything is asked of the details, and no byte is touched
@@ -26,11 +26,11 @@ pub record Writings : Type 0 where
   wrong-bytes : (d : Details) (i : Items) (l : Language) (buffer : List ℕ) → writtenBoard blankBoard d i l buffer ≡ buffer
   silent-bytes : (d : Details) (i : Items) (l : Language) (buffer : List ℕ) → writtenBoard board d i l buffer ≡ buffer
   -- "the reported rows in board order", and the board's aerodrome
-  rows : (d : Details) (i : Items) (l : Language) → recordOf (holding (blankRow ∷ right ∷ [])) d i l .rows ≡ makeRows (right ∷ [])
-  both : (d : Details) (i : Items) (l : Language) → recordOf (holding (left ∷ right ∷ [])) d i l .rows ≡ makeRows (left ∷ right ∷ [])
+  rows : (d : Details) (i : Items) (l : Language) → boardRecord (holding (blankRow ∷ right ∷ [])) d i l .rows ≡ makeRows (right ∷ [])
+  both : (d : Details) (i : Items) (l : Language) → boardRecord (holding (left ∷ right ∷ [])) d i l .rows ≡ makeRows (left ∷ right ∷ [])
   -- in board order whatever came first
   shown : reported (reports board (right ∷ left ∷ dryRow 1120605 7 1 ∷ []) .rows) ≡ left ∷ right ∷ []
-  aerodrome : (d : Details) (i : Items) (l : Language) → recordOf board d i l .title .aerodrome ≡ bytes "XQAA"
+  aerodrome : (d : Details) (i : Items) (l : Language) → boardRecord board d i l .title .aerodrome ≡ bytes "XQAA"
 
 pub writings : Writings
 unfolding _and_ isShortMonth daysOf realDay realClock realTime later validRunway isContaminant isDeep isCoverage validCoverage leastDepth isReported validDepth validThird isBlankThird threeThat isBlankRow validRow isLetters isAerodrome isBlankRunway comesBefore rises rising validList names fitsPlace fitPlaces validPlaces validBoard placeOf isNews report reports reported writingBoard writtenBoard

@@ -18,7 +18,7 @@ use Rattle.board.specs.declared.Board.{Board}
 use Rattle.boardnotice.specs.declared.Details.{Details}
 use Rattle.board.specs.Board.{blankRunway, validBoard, answer, opening}
 use Rattle.board.specs.Report.{reports}
-use Rattle.boardnotice.specs.Writing.{reported, recordOf, writingBoard, writtenBoard, WroteBoard}
+use Rattle.boardnotice.specs.Writing.{reported, boardRecord, writingBoard, writtenBoard, WroteBoard}
 use Rattle.board.specs.Shows.{Apart}
 use Rattle.boardnotice.specs.Laws.Writing.{detailsOf, board-written}
 use Rattle.board.specs.Theorems.{order-free}
@@ -44,13 +44,13 @@ module _ (b : Board) (d : Details) (i : Items) (l : Language) (room : ℕ) where
     unfolding writingBoard
     writes-21 e = rw (v, e)
 
-    pub writes : isEmpty (reported (b .rows)) ≡ false → writingBoard b d i l room ≡ writing (recordOf b d i l) room
+    pub writes : isEmpty (reported (b .rows)) ≡ false → writingBoard b d i l room ≡ writing (boardRecord b d i l) room
     unfolding writingBoard
     writes e = rw (v, e)
 
 -- with the details, items and plain language of any valid record, every board that shows a row is written if there is room: 13 never comes by the board
 pub board-writes : (b : Board) → validBoard b ≡ true → isEmpty (reported (b .rows)) ≡ false → (r : Record) → validRecord r ≡ true → (room : ℕ)
-    → length (noticeText (recordOf b (detailsOf r) (r .items) (r .language))) ≤ room → writingBoard b (detailsOf r) (r .items) (r .language) room .refusal ≡ 0
+    → length (noticeText (boardRecord b (detailsOf r) (r .items) (r .language))) ≤ room → writingBoard b (detailsOf r) (r .items) (r .language) room .refusal ≡ 0
 board-writes b v some r h room fits = ap (λ w. w .refusal) (board-written b v some r h room fits)
 
 -- the promise leaves no choice

@@ -3,7 +3,7 @@ use Prim.Native.Nat.{ℕ}
 use mathlib.Core.Path.{_≡_}
 use mathlib.Core.List.{List, [], _∷_}
 use lib.ListN.{length}
-use Rattle.text.specs.Choice.{pick, isEmpty}
+use Rattle.text.specs.Choice.{firstFailing, _else_, pick, isEmpty}
 use Rattle.row.specs.declared.Row.{Row}
 use Rattle.row.specs.Row.{isBlankRow}
 use Rattle.items.specs.declared.Items.{Items}
@@ -14,7 +14,9 @@ use Rattle.notice.specs.declared.Written.{Written}
 use Rattle.notice.specs.Writing.{unwritten, writing, written}
 use Rattle.board.specs.declared.Board.{Board}
 use Rattle.boardnotice.specs.declared.Details.{Details}
-use Rattle.board.specs.Board.{validBoard, wrongBoard}
+use Rattle.board.specs.Board.{validBoard}
+use Rattle.text.specs.Refusals.{wrongBoard, noReport}
+use mathlib.Core.Bool.{not}
 
 -- the rows shown, in board order
 unfoldable pub reported : List Row → List Row
@@ -22,8 +24,8 @@ reported [] = []
 reported (r ∷ rs) = pick (isBlankRow r) (reported rs) (r ∷ reported rs)
 
 -- the record of a board: its aerodrome and rows, and the rest as it is given
-abbrev pub recordOf : Board → Details → Items → Language → Record
-recordOf b d i l = record {
+abbrev pub boardRecord : Board → Details → Items → Language → Record
+boardRecord b d i l = record {
   addresses = d .addresses;
   filing = d .filing;
   title = record { region = d .region; serial = d .serial; aerodrome = b .aerodrome };
@@ -32,22 +34,19 @@ recordOf b d i l = record {
   language = l;
 }
 
--- "21: board holds no report"
-abbrev pub noReport : ℕ
-noReport = 21
-
 -- "Writing a board: 17, 21, 13, 14", for a buffer with room for so many bytes
 unfoldable pub writingBoard : Board → Details → Items → Language → ℕ → Written
 writingBoard b d i l room =
-    pick (validBoard b)
-    (pick (isEmpty (reported (b .rows))) (unwritten noReport) (writing (recordOf b d i l) room))
-    (unwritten wrongBoard)
+    firstFailing (
+    validBoard b else unwritten wrongBoard
+    ∷ not (isEmpty (reported (b .rows))) else unwritten noReport
+    ∷ []) (writing (boardRecord b d i l) room)
 
 -- the buffer afterwards: a refused writing touches no byte
 unfoldable pub writtenBoard : Board → Details → Items → Language → List ℕ → List ℕ
 writtenBoard b d i l buffer =
     pick (validBoard b)
-    (pick (isEmpty (reported (b .rows))) buffer (written (recordOf b d i l) buffer))
+    (pick (isEmpty (reported (b .rows))) buffer (written (boardRecord b d i l) buffer))
     buffer
 
 -- what writing a board promises

@@ -2,10 +2,9 @@
 
 ghost use mathlib.Core.Path.{_≡_};
 ghost use Rattle.body.specs.Rows.{makeRows};
-ghost use Rattle.boardnotice.specs.Writing.{reported, recordOf, WroteBoard};
+ghost use Rattle.boardnotice.specs.Writing.{reported, boardRecord, WroteBoard};
 use board::Board;
 use board::PLACES;
-use board::WRONG_BOARD;
 use board::valid_board;
 use body::Rows;
 use frontlines::Addresses;
@@ -19,6 +18,7 @@ use record::Record;
 use row::Row;
 use row::blank_row;
 use row::is_blank_row;
+use text::refusal;
 
 // What the heading of a notice says besides the aerodrome and the time.
 pub struct Details {
@@ -29,8 +29,6 @@ pub struct Details {
 }
 
 // ---- Writing a board
-
-const NO_REPORT: u8 = 21;
 
 // The rows shown, in board order, zeros behind them.
 fn shown_rows(rows: [Row; 8]) -> Rows
@@ -53,7 +51,7 @@ fn shown_rows(rows: [Row; 8]) -> Rows
 
 // What the notice of a board says; its heading time is worked out where it is written.
 fn record_of(b: Board, d: Details, items: Items, language: Language) -> Record
-    ensures { λ r. ⌜ r ≡ recordOf b d items language ⌝ }
+    ensures { λ r. ⌜ r ≡ boardRecord b d items language ⌝ }
 {
     let places = b.rows;
     let rows = shown_rows(places);
@@ -89,14 +87,14 @@ pub fn write_board(
         let r = record_of(b, d, items, language);
         if r.rows.count == 0 {
             return Written {
-                refusal: NO_REPORT,
+                refusal: refusal::NO_REPORT,
                 length: 0,
             };
         }
         return write(r, buffer);
     }
     Written {
-        refusal: WRONG_BOARD,
+        refusal: refusal::WRONG_BOARD,
         length: 0,
     }
 }

@@ -11,28 +11,28 @@ use lib.Seq.{length-take-le, take-suc-set}
 use borrow.Author.Tests.{ne-eqb, eq-eqb, ltb-true, ltb-false}
 use Rattle.text.specs.Choice.{pick, isEmpty}
 use Rattle.text.specs.Read.{Got, misfit, got}
-use Rattle.text.specs.Lines.{lines, linesSize, closed, opened}
+use Rattle.text.specs.Lines.{lines, linesSize, closed, lineText}
 use Rattle.text.specs.declared.Line.{Line}
-use Rattle.text.specs.Held.{firstLine}
+use Rattle.text.specs.Code.Held.{firstLine}
 use Rattle.text.specs.Laws.Base.{true-false}
 use Rattle.text.specs.Laws.Arrays.{pad-length, pad-more}
 use Rattle.text.specs.Laws.Lines.{first-lines, line-inside, line-place, line-lines}
 use Rattle.row.specs.declared.Row.{Row}
 use Rattle.row.specs.Row.{blankRow}
-use Rattle.rowtext.specs.Reading.{wholeRow, answer}
+use Rattle.rowtext.specs.Reading.{wholeRow, rowAnswer}
 use Rattle.body.specs.declared.Rows.{Rows}
 use Rattle.body.specs.declared.RowLine.{RowLine}
 use Rattle.text.specs.Out.{Out, refuse, fit, atEnd, finished}
 use Rattle.body.specs.Rows.{mostRows, makeRows, isAmong, Block, block, readRows}
-use Rattle.body.specs.Held.{rowLine, Kept, rowsAnswer, RowsHeld}
+use Rattle.body.specs.Code.Held.{rowLine, Kept, rowsAnswer, RowsHeld}
 use Rattle.body.specs.Laws.Rows.{row-line}
 
 -- a line's row goes on, and its refusal is 5
-fit-row : {A : Type 0} (g : Got Row) (f : Row → Out A) → answer g .refusal ≡ 0 → fit 5 g f ≡ f (answer g .row)
+fit-row : {A : Type 0} (g : Got Row) (f : Row → Out A) → rowAnswer g .refusal ≡ 0 → fit 5 g f ≡ f (rowAnswer g .row)
 fit-row misfit f z = absurd (omega arith)
 fit-row (got r k) f z = refl
 
-fit-none : {A : Type 0} (g : Got Row) (f : Row → Out A) → (answer g .refusal ≡ 0 → ⊥) → fit 5 g f ≡ refuse 5
+fit-none : {A : Type 0} (g : Got Row) (f : Row → Out A) → (rowAnswer g .refusal ≡ 0 → ⊥) → fit 5 g f ≡ refuse 5
 fit-none misfit f z = refl
 fit-none (got r k) f z = absurd (z refl)
 
@@ -154,18 +154,18 @@ module _ {m : List ℕ} {rows : List Row} {count at : ℕ} (s : SoFar m rows cou
         abbrev behind : Row → Bool → Out Block
         behind row c = pick (isAmong row rs) (refuse 7) (pick c (atEnd rest (block (rs ++ (row ∷ [])) finished)) (readRows (mostRows - (count + 1)) (rs ++ (row ∷ [])) rest))
 
-        row-here : readRows mostRows [] (lines m) ≡ fit 5 (wholeRow (opened text)) (λ row. behind row (closed text))
+        row-here : readRows mostRows [] (lines m) ≡ fit 5 (wholeRow (lineText text)) (λ row. behind row (closed text))
         row-here = let n : mostRows - count ≡ suc (mostRows - (count + 1)) = omega arith in first ∙ rw n (row-line (mostRows - (count + 1)) rs text rest some-text)
 
         -- it is none
         pub stray : (r .refusal ≡ 0 → ⊥) → readRows mostRows [] (lines m) ≡ refuse 5
         unfolding rowLine
-        stray y = row-here ∙ fit-none (wholeRow (opened text)) (λ row. behind row (closed text)) (λ e. y (ap (λ (l : RowLine). l .refusal) row-is ∙ e))
+        stray y = row-here ∙ fit-none (wholeRow (lineText text)) (λ row. behind row (closed text)) (λ e. y (ap (λ (l : RowLine). l .refusal) row-is ∙ e))
 
         module _ (y : r .refusal ≡ 0) where
           one-more : readRows mostRows [] (lines m) ≡ behind (r .row) (r .closed)
           unfolding rowLine
-          one-more = row-here ∙ fit-row (wholeRow (opened text)) (λ row. behind row (closed text)) (sym (ap (λ (l : RowLine). l .refusal) row-is) ∙ y) ∙ rw row-is
+          one-more = row-here ∙ fit-row (wholeRow (lineText text)) (λ row. behind row (closed text)) (sym (ap (λ (l : RowLine). l .refusal) row-is) ∙ y) ∙ rw row-is
 
           -- its runway is there already
           pub twice : isAmong (r .row) rs ≡ true → readRows mostRows [] (lines m) ≡ refuse 7

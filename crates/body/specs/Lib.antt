@@ -1,5 +1,5 @@
 -- Definitions first; what is proved of them is under Laws.
 pub mod Rows
-pub mod Held
+pub mod Code
 pub mod Laws
 pub mod Tables

@@ -5,7 +5,7 @@ use mathlib.Core.Bool.{Bool, true, false, not}
 use lib.Dec.{eqb, leb}
 use lib.ListN.{length, take, drop}
 use Rattle.text.specs.Choice.{pick, _and_, all, isEmpty}
-use Rattle.text.specs.Lines.{closed, opened}
+use Rattle.text.specs.Lines.{closed, lineText}
 use Rattle.text.specs.Arrays.{pad}
 use Rattle.runway.specs.Time.{later}
 use Rattle.row.specs.declared.Row.{Row}
@@ -13,6 +13,7 @@ use Rattle.row.specs.Row.{validRow, blankRow, isBlankRow}
 use Rattle.rowtext.specs.Reading.{wholeRow}
 use Rattle.body.specs.declared.Rows.{Rows}
 use Rattle.text.specs.Out.{finished, more, After, Out, refuse, taken, fit, atEnd}
+use Rattle.text.specs.Refusals.{outline, ninthRow, noRow, runwayTwice}
 
 -- "1 to 8 runway rows"
 abbrev pub mostRows : ℕ
@@ -71,13 +72,13 @@ block rs a = record { rows = rs; after = a }
 -- up to n more rows behind those seen
 unfoldable pub readRows : ℕ → List Row → List (List ℕ) → Out Block
 -- "a line or `)` missing"
-readRows n seen [] = refuse 4
+readRows n seen [] = refuse outline
 -- "an empty line ends the rows (4 while there is none)"
-readRows n seen ([] ∷ ls) = pick (isEmpty seen) (refuse 4) (taken (block seen (more ls)))
+readRows n seen ([] ∷ ls) = pick (isEmpty seen) (refuse outline) (taken (block seen (more ls)))
 -- "a ninth line that is not empty where a row may stand": 6 before the row's own rules
-readRows zero seen ((x ∷ l) ∷ ls) = refuse 6
+readRows zero seen ((x ∷ l) ∷ ls) = refuse ninthRow
 -- "any other line, `)` alone too, is read as a row", 5; "7 comes after the row's own rules"; `)` closes
-readRows (suc n) seen ((x ∷ l) ∷ ls) = fit 5 (wholeRow (opened (x ∷ l))) (λ r.
-    pick (isAmong r seen) (refuse 7)
+readRows (suc n) seen ((x ∷ l) ∷ ls) = fit noRow (wholeRow (lineText (x ∷ l))) (λ r.
+    pick (isAmong r seen) (refuse runwayTwice)
     (pick (closed (x ∷ l)) (atEnd ls (block (seen ++ (r ∷ [])) finished))
     (readRows n (seen ++ (r ∷ [])) ls)))

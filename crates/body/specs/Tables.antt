@@ -10,14 +10,14 @@ use Rattle.text.specs.Piece.{bytes}
 use Rattle.text.specs.Read.{skip, readText}
 use Rattle.text.specs.Names.{readName}
 use Rattle.text.specs.Numbers.{readDigits}
-use Rattle.text.specs.Lines.{lines, linesSize, closed, front}
+use Rattle.text.specs.Lines.{lines, linesSize, closed, allButLast}
 use Rattle.text.specs.Out.{refuse}
 use Rattle.row.specs.declared.Row.{Row}
 use Rattle.row.specs.Row.{blankRow, threeThat, validRow, isBare, isSix, isDry, isShort}
 use Rattle.rowtext.specs.Reading.{readFull, readShort, readWidth, readRow}
 use Rattle.body.specs.Rows.{mostRows, makeRows, sameRunway, isAmong, newRunways, latest, readRows}
 use Rattle.body.specs.Rows as Rows
-use Rattle.body.specs.Held.{noRows, rowsAnswer, RowsHeld}
+use Rattle.body.specs.Code.Held.{noRows, rowsAnswer, RowsHeld}
 use Rattle.body.specs.declared.Rows.{Rows}
 use Rattle.body.specs.declared.RowsRead.{RowsRead}
 use Rattle.runway.specs.Time.{isShortMonth, daysOf, realDay, realClock, realTime, later}
@@ -72,7 +72,7 @@ pub record Answers : Type 0 where
   held-closed : RowsHeld line (told 0 rows true 0)
 
 pub answers : Answers
-unfolding _and_ skip readText readName readDigits measurePieces readMeasure readCoverage readDescription readThird readGroup readFull readShort readWidth readRow isShortMonth daysOf realDay realClock realTime validRunway isContaminant isDeep isCoverage validCoverage leastDepth isReported validDepth validThird threeThat validRow isBare isSix isDry isShort lines linesSize closed front isAmong readRows rowsAnswer
+unfolding _and_ skip readText readName readDigits measurePieces readMeasure readCoverage readDescription readThird readGroup readFull readShort readWidth readRow isShortMonth daysOf realDay realClock realTime validRunway isContaminant isDeep isCoverage validCoverage leastDepth isReported validDepth validThird threeThat validRow isBare isSix isDry isShort lines linesSize closed allButLast isAmong readRows rowsAnswer
 answers = record {
   most = refl;
   missing = refl;

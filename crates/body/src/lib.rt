@@ -5,6 +5,7 @@ ghost use mathlib.Core.Path.{_≡_};
 ghost use mathlib.Core.List.{[], map};
 ghost use lib.Dec.{eqb, ltb};
 ghost use lib.ListN.{take, drop};
+ghost use Rattle.text.specs.Refusals.{outline};
 ghost use Rattle.text.specs.Choice.{pick, all};
 ghost use Rattle.text.specs.Piece.{canonical};
 ghost use Rattle.text.specs.Lines.{under};
@@ -12,7 +13,7 @@ ghost use Rattle.text.specs.Put.{Put};
 ghost use Rattle.row.specs.Row.{validRow, isBlankRow};
 ghost use Rattle.rowtext.specs.Text.{rowPieces};
 ghost use Rattle.body.specs.Rows.{sameRunway, isAmong, newRunways, latestOf, latest, rowsOf, makeRows, validRows};
-ghost use Rattle.body.specs.Held.{rowLine, noRows, rowsAnswer, RowsHeld};
+ghost use Rattle.body.specs.Code.Held.{rowLine, noRows, rowsAnswer, RowsHeld};
 use fill::put;
 use fill::told_behind;
 use row::Row;
@@ -25,6 +26,7 @@ use runway::is_later;
 use text::first_line;
 use text::is_closed;
 use text::place;
+use text::refusal;
 
 // 1 to 8 rows, zeros past the count.
 pub struct Rows {
@@ -209,16 +211,16 @@ fn no_rows(refusal: u8) -> RowsRead
 
 // An empty line ends the rows: 4 while there is none.
 fn empty_line(count: u8) -> u8
-    ensures { λ r. ⌜ r ≡ pick (eqb count 0) 4 0 ⌝ }
+    ensures { λ r. ⌜ r ≡ pick (eqb count 0) outline 0 ⌝ }
 {
-    if count == 0 { 4 } else { 0 }
+    if count == 0 { refusal::OUTLINE } else { 0 }
 }
 
 // A row that `)` closes is the last: 4 where bytes follow.
 fn last_row(next: usize, length: usize) -> u8
-    ensures { λ r. ⌜ r ≡ pick (ltb next length) 4 0 ⌝ }
+    ensures { λ r. ⌜ r ≡ pick (ltb next length) outline 0 ⌝ }
 {
-    if next < length { 4 } else { 0 }
+    if next < length { refusal::OUTLINE } else { 0 }
 }
 
 fn rows_answer(refusal: u8, rows: Rows, closed: bool, at: usize) -> RowsRead
@@ -255,7 +257,7 @@ pub fn read_rows(m: &[u8]) -> RowsRead
     let mut at: usize = 0;
     let refusal: u8 = 'lines: loop {
         if m.len() <= at {
-            break 'lines 4;
+            break 'lines refusal::OUTLINE;
         }
         let start = at;
         let line = first_line(&m[start..]);
@@ -266,11 +268,11 @@ pub fn read_rows(m: &[u8]) -> RowsRead
             break 'lines empty_line(count);
         }
         if MOST_ROWS <= count {
-            break 'lines 6;
+            break 'lines refusal::NINTH_ROW;
         }
         let read = row_line(&m[start..end]);
         if read.refusal != 0 {
-            break 'lines 5;
+            break 'lines refusal::NO_ROW;
         }
         let row = read.row;
         // in place, since a call would copy the array for each row
@@ -278,7 +280,7 @@ pub fn read_rows(m: &[u8]) -> RowsRead
         while k < count {
             let r = rows[k as usize];
             if same_runway(r, row) {
-                break 'lines 7;
+                break 'lines refusal::RUNWAY_TWICE;
             }
             k += 1;
         }

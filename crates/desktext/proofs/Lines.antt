@@ -11,7 +11,7 @@ use Rattle.text.specs.Choice.{pick, _and_}
 use Rattle.text.specs.Piece.{canonical, end}
 use Rattle.text.specs.Read.{Got, misfit, got, guard, andThen, whole}
 use Rattle.text.specs.Names.{isLetter, readCount}
-use Rattle.text.specs.Held.{fits}
+use Rattle.text.specs.Code.Held.{isGot}
 use Rattle.text.specs.Arrays.{pad}
 use Rattle.text.specs.Laws.Base.{true-false}
 use Rattle.text.specs.Laws.Put.{canonical-append}
@@ -19,18 +19,19 @@ use Rattle.row.specs.declared.Row.{Row}
 use Rattle.rowtext.specs.declared.RowRead.{RowRead}
 use Rattle.row.specs.Row.{validRow}
 use Rattle.rowtext.specs.Text.{rowPieces}
-use Rattle.rowtext.specs.Reading.{wholeRow, refusedRow, answer as rowAnswer}
+use Rattle.rowtext.specs.Reading.{wholeRow, rowAnswer as rowAnswer}
+use Rattle.text.specs.Refusals.{noRow}
 use Rattle.frontlines.specs.Letters.{isLetters}
 use Rattle.frontlines.specs.Heading.{aerodromeSize, readAerodrome}
-use Rattle.frontlines.specs.Answers.{aerodromeAnswer}
+use Rattle.frontlines.specs.Code.Answers.{aerodromeAnswer}
 use Rattle.frontlines.specs.declared.AerodromeRead.{AerodromeRead}
 use Rattle.text.specs.Lines.{longest}
 use Rattle.board.specs.declared.Runway.{Runway}
 use Rattle.board.specs.declared.Board.{Board}
 use Rattle.desktext.specs.declared.RunwayList.{RunwayList}
-use Rattle.board.specs.Board.{places, blankRunway, isAerodrome, validList, noRows, answer, opening, refusedOpening}
+use Rattle.board.specs.Board.{places, blankRunway, isAerodrome, validList, noRows, rowAnswer, opening, refusedOpening}
 use Rattle.board.specs.Report.{report}
-use Rattle.desktext.specs.Line.{readRunways, readOpening, listAnswer, opened, openingLine, reportRead, reportLine, shownText}
+use Rattle.desktext.specs.Line.{readRunways, readOpening, listAnswer, openingRead, openingLine, reportRead, reportLine, shownText}
 use Rattle.board.specs.Laws.Aerodrome.{aerodrome-fits}
 
 -- the first n bytes of a class, read as a part of their own
@@ -53,7 +54,7 @@ none-opens : (a : List ℕ) (ws : List Runway) → opening a 0 ws ≡ refusedOpe
 unfolding opening validList _and_
 none-opens a ws = go (isAerodrome a)
   where
-    go : (t : Bool) → pick (t and false) (answer 0 (record { aerodrome = a; count = 0; runways = ws; rows = noRows })) refusedOpening ≡ refusedOpening
+    go : (t : Bool) → pick (t and false) (rowAnswer 0 (record { aerodrome = a; count = 0; runways = ws; rows = noRows })) refusedOpening ≡ refusedOpening
     go true = refl
     go false = refl
 
@@ -65,7 +66,7 @@ module _ (line : List ℕ) where
   abbrev rest : Got (List Runway)
   rest = readRunways (drop aerodromeSize line)
 
-  split : openingLine line ≡ opened (whole (andThen (andThen front (λ a _. got a (drop aerodromeSize line))) (λ a k. andThen (readRunways k) (λ ws r. got (a, ws) r))))
+  split : openingLine line ≡ openingRead (whole (andThen (andThen front (λ a _. got a (drop aerodromeSize line))) (λ a k. andThen (readRunways k) (λ ws r. got (a, ws) r))))
   unfolding openingLine readOpening readAerodrome
   split = rw (count-split isLetter aerodromeSize line)
 
@@ -73,7 +74,7 @@ module _ (line : List ℕ) where
   no-aerodrome e = sym (split ∙ go front e)
     where
       go : (g : Got (List ℕ)) → aerodromeAnswer g .fits ≡ false
-          → opened (whole (andThen (andThen g (λ a _. got a (drop aerodromeSize line))) (λ a k. andThen (readRunways k) (λ ws r. got (a, ws) r)))) ≡ refusedOpening
+          → openingRead (whole (andThen (andThen g (λ a _. got a (drop aerodromeSize line))) (λ a k. andThen (readRunways k) (λ ws r. got (a, ws) r)))) ≡ refusedOpening
       go misfit e = refl
       go (got a r) e = true-false e
 
@@ -84,29 +85,29 @@ module _ (line : List ℕ) where
   pub with-aerodrome : (a : AerodromeRead) → a ≡ aerodromeAnswer front → a .fits ≡ true → (l : RunwayList) → l ≡ listAnswer (whole rest) → opening (a .aerodrome) (l .count) (l .runways) ≡ openingLine line
   with-aerodrome a p e l q = rw (p, q) (sym (split ∙ go front (ap (λ (x : AerodromeRead). x .fits) (sym p) ∙ e)))
     where
-      on : (a : List ℕ) (h : Got (List Runway)) → opened (whole (andThen h (λ ws r. got (a, ws) r))) ≡ opening a (listAnswer (whole h) .count) (listAnswer (whole h) .runways)
+      on : (a : List ℕ) (h : Got (List Runway)) → openingRead (whole (andThen h (λ ws r. got (a, ws) r))) ≡ opening a (listAnswer (whole h) .count) (listAnswer (whole h) .runways)
       on a misfit = sym (none-opens a (pad places blankRunway []))
       on a (got ws []) = refl
       on a (got ws (x ∷ k)) = sym (none-opens a (pad places blankRunway []))
 
       go : (g : Got (List ℕ)) → aerodromeAnswer g .fits ≡ true
-          → opened (whole (andThen (andThen g (λ a _. got a (drop aerodromeSize line))) (λ a k. andThen (readRunways k) (λ ws r. got (a, ws) r))))
+          → openingRead (whole (andThen (andThen g (λ a _. got a (drop aerodromeSize line))) (λ a k. andThen (readRunways k) (λ ws r. got (a, ws) r))))
           ≡ opening (aerodromeAnswer g .aerodrome) (listAnswer (whole rest) .count) (listAnswer (whole rest) .runways)
       go misfit e = true-false (sym e)
       go (got a r) e = on a rest
 
 -- the line of a report
 module _ (b : Board) (line : List ℕ) where
-  pub long-line : longest < length line → answer refusedRow b ≡ reportLine b line
+  pub long-line : longest < length line → rowAnswer noRow b ≡ reportLine b line
   unfolding reportLine
   long-line h = rw (lt-leb (length line) longest h)
 
   module _ (h : length line ≤ longest) (r : RowRead) (e : r ≡ rowAnswer (wholeRow line)) where
-    pub no-row : (r .refusal ≡ 0 → ⊥) → answer refusedRow b ≡ reportLine b line
+    pub no-row : (r .refusal ≡ 0 → ⊥) → rowAnswer noRow b ≡ reportLine b line
     unfolding reportLine
     no-row z = rw (le-leb (length line) longest h) (go (wholeRow line) (λ k. z (ap (λ (x : RowRead). x .refusal) e ∙ k)))
       where
-        go : (g : Got Row) → (rowAnswer g .refusal ≡ 0 → ⊥) → answer refusedRow b ≡ reportRead b g
+        go : (g : Got Row) → (rowAnswer g .refusal ≡ 0 → ⊥) → rowAnswer noRow b ≡ reportRead b g
         go misfit z = refl
         go (got r k) z = absurd (z refl)
 

@@ -14,7 +14,7 @@ use Rattle.text.specs.Laws.Many.{many-laws}
 use Rattle.text.specs.Laws.Put.{over-zeros}
 use Rattle.runway.specs.declared.RunwayFound.{RunwayFound}
 use Rattle.runway.specs.Runway.{readRunway}
-use Rattle.runway.specs.Held.{HeldRunway, noRunway}
+use Rattle.runway.specs.Code.Held.{HeldRunway, noRunway}
 use Rattle.board.specs.declared.Runway.{Runway}
 use Rattle.desktext.specs.declared.RunwayList.{RunwayList}
 use Rattle.board.specs.Board.{places, blankRunway}

@@ -7,7 +7,7 @@ use native.Mathlib.Omega.{arith}
 use lib.ListN.{length, take, drop, drop-of-length-le}
 use borrow.Author.Tests.{eq-eqb, ne-eqb}
 use Rattle.text.specs.declared.Line.{Line}
-use Rattle.text.specs.Held.{firstLine}
+use Rattle.text.specs.Code.Held.{firstLine}
 use Rattle.text.specs.Lines.{lines}
 use Rattle.text.specs.Piece.{bytes}
 use Rattle.text.specs.Put.{Put}
@@ -20,7 +20,7 @@ use Rattle.board.specs.Report.{rowAt}
 use Rattle.desktext.specs.Line.{openingLine, reportLine, shownText}
 use Rattle.desktext.specs.declared.Taken.{Taken}
 use Rattle.desktext.specs.Desk.{printed, answerLine, shownRows, answersText, refusedText, openedText, linesText, deskText}
-use Rattle.desktext.specs.Answers.{taken}
+use Rattle.desktext.specs.Code.Answers.{takenLine}
 
 -- one place more
 pub rows-more : (i : ℕ) (b : Board) → shownRows (i + 1) b ≡ shownRows i b ++ shownText (rowAt b i)
@@ -28,7 +28,7 @@ unfolding shownRows
 rows-more i b = rw add-one
 
 -- the report that the first line is
-pub taken-is : (b : Board) (m : List ℕ) (l : Line) → l ≡ firstLine m → (a : Answer) → a ≡ reportLine b (take (l .size) m) → record { answer = a; next = l .next } ≡ taken b m
+pub taken-is : (b : Board) (m : List ℕ) (l : Line) → l ≡ firstLine m → (a : Answer) → a ≡ reportLine b (take (l .size) m) → record { answer = a; next = l .next } ≡ takenLine b m
 taken-is b m l e a f = rw (f, e)
 
 -- what is left, put from here, makes the whole
@@ -36,7 +36,7 @@ abbrev pub Goes : ℕ → List ℕ → List ℕ → ℕ → List ℕ → List �
 Goes at whole first here left now′ = (x : List ℕ) (q : ℕ) → Put here left now′ x q → Put at whole first x q
 
 -- one turn of the loop over the lines
-module _ (m : List ℕ) (i : ℕ) (low : i < length m) (b : Board) (s : Taken) (e : s ≡ taken b (take (length m - i) (drop i m))) where
+module _ (m : List ℕ) (i : ℕ) (low : i < length m) (b : Board) (s : Taken) (e : s ≡ takenLine b (take (length m - i) (drop i m))) where
   abbrev rest : List ℕ
   rest = drop i m
 

@@ -6,14 +6,14 @@ use lib.ListN.{length}
 use Rattle.text.specs.Choice.{pick}
 use Rattle.text.specs.Piece.{Piece, byte, end, canonical, verbatim, layAll, _then_}
 use Rattle.text.specs.Read.{Got, misfit, got, whole, readSeq, readAs, readMany}
-use Rattle.text.specs.Names.{readCount}
+use Rattle.text.specs.Names.{readCount, isSpace}
 use Rattle.text.specs.Arrays.{pad}
-use Rattle.text.specs.Held.{isSpace}
 use Rattle.runway.specs.Runway.{readRunway, runwayPieces}
 use Rattle.row.specs.declared.Row.{Row}
 use Rattle.row.specs.Row.{validRow}
 use Rattle.rowtext.specs.Text.{rowPieces}
-use Rattle.rowtext.specs.Reading.{wholeRow, refusedRow}
+use Rattle.rowtext.specs.Reading.{wholeRow}
+use Rattle.text.specs.Refusals.{noRow}
 use Rattle.frontlines.specs.Heading.{readAerodrome}
 use Rattle.text.specs.Lines.{longest}
 use Rattle.board.specs.declared.Runway.{Runway}
@@ -53,22 +53,22 @@ listAnswer misfit = record { count = 0; runways = pad places blankRunway [] }
 listAnswer (got ws r) = record { count = length ws; runways = pad places blankRunway ws }
 
 -- a line that does not fit is refused as a wrong list is
-abbrev pub opened : Got (List ℕ × List Runway) → Answer
-opened misfit = refusedOpening
-opened (got p r) = opening (p .0) (length (p .1)) (pad places blankRunway (p .1))
+abbrev pub openingRead : Got (List ℕ × List Runway) → Answer
+openingRead misfit = refusedOpening
+openingRead (got p r) = opening (p .0) (length (p .1)) (pad places blankRunway (p .1))
 
 -- the answer to an opening line
 unfoldable pub openingLine : List ℕ → Answer
-openingLine line = opened (whole (readOpening line))
+openingLine line = openingRead (whole (readOpening line))
 
 -- "5 where the line is no row under freedoms (a), (b) and (d)"
 abbrev pub reportRead : Board → Got Row → Answer
-reportRead b misfit = answer refusedRow b
+reportRead b misfit = answer noRow b
 reportRead b (got r k) = report b r
 
 -- "or is over 4,096 bytes"
 unfoldable pub reportLine : Board → List ℕ → Answer
-reportLine b line = pick (leb (length line) longest) (reportRead b (wholeRow line)) (answer refusedRow b)
+reportLine b line = pick (leb (length line) longest) (reportRead b (wholeRow line)) (answer noRow b)
 
 -- "at the end the rows shown, in board order, one a line": zeros, and all that is no valid row, have none
 unfoldable pub shownText : Row → List ℕ

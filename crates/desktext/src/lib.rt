@@ -6,10 +6,10 @@ ghost use Rattle.text.specs.Put.{Put};
 ghost use Rattle.board.specs.Report.{rowAt};
 ghost use Rattle.desktext.specs.Line.{shownText, readSpaced, readRunways, listAnswer, openingLine, reportLine};
 ghost use Rattle.desktext.specs.Desk.{answerLine, shownRows, answersText, refusedText, deskText};
-ghost use Rattle.desktext.specs.Answers.{taken};
+ghost use Rattle.desktext.specs.Code.Answers.{takenLine};
 ghost use lib.ListN.{drop, getD};
 ghost use Rattle.text.specs.Read.{misfit, whole};
-ghost use Rattle.runway.specs.Held.{HeldRunway};
+ghost use Rattle.runway.specs.Code.Held.{HeldRunway};
 ghost use Rattle.row.specs.Row.{blankRow};
 use board::Answer;
 use board::BLANK_RUNWAY;
@@ -27,7 +27,6 @@ use frontlines::read_aerodrome;
 use row::Row;
 use row::blank_row;
 use row::valid_row;
-use rowtext::REFUSED_ROW;
 use rowtext::put_any_row;
 use rowtext::read_row;
 use runway::NO_RUNWAY;
@@ -36,6 +35,7 @@ use runway::read_runway;
 use text::LONGEST;
 use text::first_line;
 use text::place;
+use text::refusal;
 
 // ---- The desk's lines
 
@@ -123,7 +123,7 @@ pub fn report_line(b: Board, line: &[u8]) -> Answer
         }
     }
     Answer {
-        refusal: REFUSED_ROW,
+        refusal: refusal::NO_ROW,
         board: b,
     }
 }
@@ -197,7 +197,7 @@ fn put_rows(out: &mut [u8], at: usize, b: Board) -> usize
 
 // The report at the front of what is left of the input.
 fn take_line(b: Board, m: &[u8]) -> Taken
-    ensures { λ r. ⌜ r ≡ taken b (now (m .entry)) ⌝ }
+    ensures { λ r. ⌜ r ≡ takenLine b (now (m .entry)) ⌝ }
 {
     let line = first_line(m);
     let size = line.size;

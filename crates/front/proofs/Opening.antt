@@ -11,7 +11,7 @@ use lib.ListN.{length, take, drop, drop-of-length-le}
 use Rattle.text.specs.Choice.{pick}
 use Rattle.text.specs.Read.{Got, misfit, got, andThen, whole}
 use Rattle.text.specs.Lines.{lines, linesSize}
-use Rattle.text.specs.Held.{Held, firstLine}
+use Rattle.text.specs.Code.Held.{Held, firstLine}
 use Rattle.text.specs.declared.Line.{Line}
 use Rattle.text.specs.declared.Found.{Found}
 use Rattle.text.specs.Laws.Lines.{whole-got, line-lines}
@@ -24,10 +24,10 @@ use Rattle.frontlines.specs.declared.AerodromeRead.{AerodromeRead}
 use Rattle.frontlines.specs.Addresses.{readAddresses}
 use Rattle.frontlines.specs.Filing.{readFiling}
 use Rattle.frontlines.specs.Heading.{Heading, readHeading, readSerialLine, readAerodrome}
-use Rattle.frontlines.specs.Answers.{addressesAnswer, filingAnswer, headingAnswer, aerodromeAnswer}
+use Rattle.frontlines.specs.Code.Answers.{addressesAnswer, filingAnswer, headingAnswer, aerodromeAnswer}
 use Rattle.text.specs.Out.{refuse}
 use Rattle.front.specs.declared.Front.{Front}
-use Rattle.front.specs.Front.{frontCount, blankFront, withAddresses, withFiling, withHeading, withSerial, withAerodrome, fillLine, lineRefusal, nextLine, fillLines, frontAnswer, FrontHeld}
+use Rattle.front.specs.Code.Front.{frontCount, blankFront, withAddresses, withFiling, withHeading, withSerial, withAerodrome, fillLine, lineRefusal, nextLine, fillLines, frontAnswer, FrontHeld}
 
 -- what a line's answer stands for
 addresses-says : (g : Got Addresses) {r : AddressesRead} → r ≡ addressesAnswer (whole g) → whole g ≡ pick (r .fits) (got (r .addresses) []) misfit

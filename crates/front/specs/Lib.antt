@@ -1,4 +1,4 @@
 -- Definitions first; what is proved of them is under Laws; the values are pinned in Tables.
-pub mod Front
+pub mod Code
 pub mod Laws
 pub mod Tables

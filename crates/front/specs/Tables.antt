@@ -20,7 +20,7 @@ use Rattle.frontlines.specs.Addresses.{makeAddresses, readAddresses, addressesP
 use Rattle.frontlines.specs.Filing.{realFiling, readFiling, filingPieces}
 use Rattle.frontlines.specs.Heading.{readHeading, readSerialLine, readAerodrome, headingPieces, serialPieces, aerodromePieces}
 use Rattle.front.specs.declared.Front.{Front}
-use Rattle.front.specs.Front.{blankFront, withAddresses, withFiling, withHeading, withSerial, withAerodrome, frontCount, fillLine, lineRefusal, nextLine, fillLines, noFront, frontAnswer, FrontHeld, frontText}
+use Rattle.front.specs.Code.Front.{blankFront, withAddresses, withFiling, withHeading, withSerial, withAerodrome, frontCount, fillLine, lineRefusal, nextLine, fillLines, noFront, frontAnswer, FrontHeld, frontText}
 
 abbrev title : Title
 title = record { region = bytes "XQ"; serial = 7; aerodrome = bytes "XQAA" }

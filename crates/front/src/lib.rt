@@ -6,7 +6,7 @@ ghost use Rattle.text.specs.Piece.{canonical};
 ghost use Rattle.text.specs.Put.{Put};
 ghost use Rattle.frontlines.specs.Filing.{filingPieces};
 ghost use Rattle.frontlines.specs.Heading.{headingPieces, serialPieces, aerodromePieces};
-ghost use Rattle.front.specs.Front.{blankFront, lineRefusal, frontAnswer, frontText, FrontHeld};
+ghost use Rattle.front.specs.Code.Front.{blankFront, lineRefusal, frontAnswer, frontText, FrontHeld};
 use fill::put;
 use fill::told_behind;
 use frontlines::Addresses;
@@ -24,6 +24,7 @@ use frontlines::read_heading;
 use frontlines::read_serial;
 use text::first_line;
 use text::place;
+use text::refusal;
 
 // ---- Reading
 
@@ -77,9 +78,13 @@ fn line_refusal(k: u8) -> u8
     ensures { λ r. ⌜ r ≡ lineRefusal k ⌝ }
 {
     if k < 2 {
-        return 2;
+        return refusal::LINE_1_OR_2;
     }
-    if k == 2 { 3 } else { 4 }
+    if k == 2 {
+        refusal::LINE_3
+    } else {
+        refusal::OUTLINE
+    }
 }
 
 fn front_answer(refusal: u8, front: Front, at: usize) -> FrontRead

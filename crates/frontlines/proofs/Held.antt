@@ -8,7 +8,7 @@ use lib.ListN.{length, drop, drop-of-length-le}
 use lib.Seq.{drop-cons}
 use Rattle.text.specs.Choice.{pick}
 use Rattle.text.specs.Read.{Got, misfit, got, guard, andThen, whole}
-use Rattle.text.specs.Held.{Held, none}
+use Rattle.text.specs.Code.Held.{Held, none}
 use Rattle.text.specs.declared.Found.{Found}
 use Rattle.text.specs.Laws.Held.{got-of, misfit-of}
 

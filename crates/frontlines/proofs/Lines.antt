@@ -9,9 +9,9 @@ use lib.ListN.{length, take, drop, replicate, length-drop, length-take, drop-of-
 use lib.Seq.{sets, drop-drop}
 use Rattle.text.specs.Choice.{pick}
 use Rattle.text.specs.Piece.{bytes}
-use Rattle.text.specs.Read.{misfit, got, andThen, readText, readGap, whole}
+use Rattle.text.specs.Read.{misfit, got, andThen, readText, readGap, whole, readWord}
 use Rattle.text.specs.Names.{inClass, readCount}
-use Rattle.text.specs.Held.{Held, none, fits, readWord}
+use Rattle.text.specs.Code.Held.{Held, none, isGot}
 use Rattle.text.specs.declared.Found.{Found}
 use Rattle.text.specs.Laws.Base.{no-misfit, guard-got}
 use Rattle.text.specs.Laws.Held.{held-text}
@@ -19,7 +19,7 @@ use Rattle.text.specs.Laws.Put.{over-zeros}
 use Rattle.frontlines.specs.Letters.{readLetters}
 use Rattle.frontlines.specs.Filing.{readFilingTime, readFiling}
 use Rattle.frontlines.specs.Heading.{readSerial, readDesignator, readTime, makeHeading, readHeading, readSerialLine}
-use Rattle.frontlines.specs.Answers.{Designated}
+use Rattle.frontlines.specs.Code.Answers.{Designated}
 use Rattle.frontlines.specs.Laws.Letters.{letters-long}
 use Rattle.frontlines.specs.Laws.Heading.{designator-laws, serial-low}
 use Rattle.frontlines.proofs.Groups.{letters-stand, letters-off}
@@ -69,10 +69,10 @@ module _ (m : List ℕ) (w : Found) (h : Held m (readWord (bytes "SW") 0 m) w) w
     stands : readText (bytes "SW") m ≡ got tt (drop 2 m)
     stands = let e = held-text (bytes "SW") m 0 h ∙ ap (λ (b : Bool). pick b (got tt (drop (w .next) m)) misfit) t in e ∙ ap (got tt) (sw-at m e)
 
-    pub no-region : fits (readCount (inClass 0) 2 (drop 2 m)) ≡ false → Designated m none
+    pub no-region : isGot (readCount (inClass 0) 2 (drop 2 m)) ≡ false → Designated m none
     no-region f = record { within = omega arith; says = rw (stands, letters-off 2 (drop 2 m) f) }
 
-    pub region : fits (readCount (inClass 0) 2 (drop 2 m)) ≡ true → {r : Found} → Held m (readSerial (drop 4 m)) r → Designated m r
+    pub region : isGot (readCount (inClass 0) 2 (drop 2 m)) ≡ true → {r : Found} → Held m (readSerial (drop 4 m)) r → Designated m r
     region f {r} n =
         let s = letters-stand 2 (drop 2 m) f in
         record {
@@ -111,7 +111,7 @@ module _ (m : List ℕ) where
 pub undesignated : {m : List ℕ} {r : Found} → Designated m r → r .fits ≡ false → readDesignator m ≡ misfit
 undesignated h t = h .says ∙ rw t
 
--- what a designator that fits says
+-- what a designator that isGot says
 module _ {m : List ℕ} {r : Found} (h : Designated m r) (t : r .fits ≡ true) where
   pub designated : readDesignator m ≡ got (take 2 (drop 2 m), r .value) (drop (r .next) m)
   designated = h .says ∙ rw t

@@ -15,7 +15,7 @@ use Rattle.text.specs.Laws.Names.{all-at}
 use Rattle.text.specs.Laws.Many.{many-laws}
 use Rattle.text.specs.Laws.Put.{sets-join, over-zeros}
 use Rattle.frontlines.specs.Addresses.{priorities, makeAddresses, readPriority, readAddress, readAddresses}
-use Rattle.frontlines.specs.Answers.{zeros, listAnswer, addressesAnswer}
+use Rattle.frontlines.specs.Code.Answers.{zeros, listAnswer, addressesAnswer}
 use Rattle.frontlines.specs.Laws.Addresses.{priority-laws, address-laws, flat-fits}
 use Rattle.frontlines.specs.declared.Addresses.{Addresses}
 use Rattle.frontlines.specs.declared.AddressList.{AddressList}

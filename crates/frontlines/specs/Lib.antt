@@ -3,6 +3,6 @@ pub mod Letters
 pub mod Addresses
 pub mod Filing
 pub mod Heading
-pub mod Answers
+pub mod Code
 pub mod Laws
 pub mod Tables

@@ -11,17 +11,17 @@ use Rattle.text.specs.Read.{Got, misfit, got, skip, readText, readMany, whole}
 use Rattle.text.specs.Names.{readCount, readName}
 use Rattle.text.specs.Numbers.{digits, readDigits}
 use Rattle.text.specs.Arrays.{slots, pastSlots, flat}
-use Rattle.text.specs.Held.{fits}
+use Rattle.text.specs.Code.Held.{isGot}
 use Rattle.runway.specs.Time.{isShortMonth, daysOf, realDay, realClock, realTime}
 use Rattle.frontlines.specs.Letters.{isLetters}
 use Rattle.frontlines.specs.Addresses.{addressesOf, makeAddresses, addressesPieces, readAddresses, validAddresses}
 use Rattle.frontlines.specs.Filing.{realFiling, filingPieces, readFiling, validFiling}
 use Rattle.frontlines.specs.Heading.{Heading, readDesignator, headingPieces, readHeading, validTitle, validHeading, serialPieces, readSerialLine, aerodromePieces, readAerodrome}
-use Rattle.frontlines.specs.Answers.{addressesAnswer, filingAnswer, headingAnswer, aerodromeAnswer, listAnswer, regionAt}
+use Rattle.frontlines.specs.Code.Answers.{addressesAnswer, filingAnswer, headingAnswer, aerodromeAnswer, listAnswer, regionAt}
 
 -- which of some lines are taken, each read whole
 abbrev taken : {A : Type 0} → (List ℕ → Got A) → List String → List Bool
-taken read lines = map (λ s. fits (whole (read (bytes s)))) lines
+taken read lines = map (λ s. isGot (whole (read (bytes s)))) lines
 
 -- "`GG` or `DD`, then 1 to 8 addresses of eight letters"
 pub record AddressLines : Type 0 where

@@ -13,7 +13,7 @@ use Rattle.text.specs.Laws.Held.{part-all}
 use Rattle.items.specs.Item.{validSlot, isNew, slotsFit, validItem}
 use Rattle.items.specs.Awareness.{inOrder, standsBehind, soundItems}
 use Rattle.items.specs.Laws.Order.{sound-on, sound-invalid, sound-misplaced}
-use Rattle.items.specs.Held.{SlotEnd}
+use Rattle.items.specs.Code.Held.{SlotEnd}
 use Rattle.items.specs.declared.Item.{Item}
 
 -- the slot at a place

@@ -3,7 +3,7 @@ use Prim.Native.Nat.{ℕ}
 use mathlib.Core.List.{List, [], _∷_}
 use mathlib.Core.Bool.{Bool, true, false, not}
 use lib.Dec.{eqb, leb, ltb}
-use lib.ListN.{length, take, drop}
+use lib.ListN.{length}
 use Rattle.text.specs.Choice.{pick, _and_, all, sameBytes}
 use Rattle.text.specs.Piece.{Piece, loose, layAll, _then_}
 use Rattle.text.specs.Read.{Got, got, whole, readSeq, readAs, readIf, readLoose, readMany}
@@ -83,7 +83,3 @@ noNumbers i = eqb (i .letter) 0 and eqb (i .number) 0 and eqb (i .side) 0 and eq
 -- all zero
 unfoldable pub isBlankItem : Item → Bool
 isBlankItem i = noNumbers i and isBlank taxiwayBytes (i .taxiways) and isBlank apronSize (i .name)
-
--- the items of a record: its first ones, and zeros past the count
-unfoldable pub validItemArray : ℕ → List Item → Bool
-validItemArray n is = leb n mostItems and soundItems (take n is) and all isBlankItem (drop n is)

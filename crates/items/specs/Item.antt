@@ -68,12 +68,12 @@ abbrev pub behindName : List ℕ → List ℕ
 behindName f = past isName f
 
 -- "in item I its number may be 01 to 36"
-abbrev pub highestRunway : ℕ → ℕ
-highestRunway l = pick (eqb l letterI) 36 18
+abbrev pub highestFor : ℕ → ℕ
+highestFor l = pick (eqb l letterI) 36 18
 
 -- an item names a runway if its letter does
 unfoldable pub runwayFits : Item → Bool
-runwayFits i = pick (onRunway (i .letter)) (validRunway (highestRunway (i .letter)) (i .number) (i .side)) (eqb (i .number) 0 and eqb (i .side) 0)
+runwayFits i = pick (onRunway (i .letter)) (validRunway (highestFor (i .letter)) (i .number) (i .side)) (eqb (i .number) 0 and eqb (i .side) 0)
 
 -- from the one bound to the other
 abbrev pub isBetween : ℕ → ℕ → ℕ → Bool

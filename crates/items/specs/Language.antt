@@ -3,11 +3,10 @@ use Prim.Native.Nat.{ℕ}
 use mathlib.Core.List.{List, [], _∷_}
 use mathlib.Core.Bool.{Bool, false, not}
 use lib.Dec.{eqb, leb}
-use lib.ListN.{length, take, drop}
+use lib.ListN.{length}
 use Rattle.text.specs.Choice.{_and_, all, headIs}
 use Rattle.text.specs.Read.{Got, got, guard}
 use Rattle.text.specs.Names.{isPlainByte}
-use Rattle.text.specs.Arrays.{isZero}
 
 -- "no leading space"
 abbrev pub spaceByte : ℕ
@@ -34,7 +33,3 @@ validLanguage l = leb 2 (length l) and leb (length l) mostLanguage and all isPla
 -- a line that is plain language, byte by byte as it stands
 unfoldable pub wholeLanguage : List ℕ → Got (List ℕ)
 wholeLanguage l = guard (validLanguage l) (got l [])
-
--- the plain language of a record: its first bytes, and zeros past the length
-unfoldable pub validLanguageArray : ℕ → List ℕ → Bool
-validLanguageArray n f = leb n mostLanguage and validLanguage (take n f) and all isZero (drop n f)

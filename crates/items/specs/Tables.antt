@@ -11,18 +11,19 @@ use Rattle.text.specs.Read.{Got, misfit, got, skip, readText, readMany}
 use Rattle.text.specs.Names.{run, past, readName, isMark, isPlainByte}
 use Rattle.text.specs.Numbers.{readDigits, digits}
 use Rattle.text.specs.Arrays.{slots, flat}
-use Rattle.text.specs.Held.{fits}
+use Rattle.text.specs.Code.Held.{isGot}
 use Rattle.runway.specs.Runway.{validRunway}
 use Rattle.items.specs.declared.Item.{Item}
 use Rattle.items.specs.Item.{letters, letterI, letterJ, letterK, letterL, letterM, letterN, letterO, letterP, letterR, onRunway, onTaxiways, runwayFits, amountFits, edgeFits, countFits, isTaxiway, validSlot, isNew, slotsFit, taxiwaysFit, nameFits, numbersFit, validItem}
 use Rattle.items.specs.ItemText.{itemText, itemPieces}
 use Rattle.items.specs.ReadItem.{readLength, readBank, readNeither, readDetail, readTaxiway, readTaxiways, readApron, readRunwayForm, readTaxiForm, readApronForm, readBareForm, readForm, readBody, readItem, bareItem, taxiItem, apronItem, runwayItem}
-use Rattle.items.specs.Awareness.{sameRunway, otherApron, mayRepeat, mayFollow, inOrder, soundItems, readAwareness, wholeAwareness, awarenessPieces, isBlank, noNumbers, isBlankItem, validItemArray}
-use Rattle.items.specs.Language.{lastIs, validLanguage, validLanguageArray}
+use Rattle.items.specs.Awareness.{validItems, sameRunway, otherApron, mayRepeat, mayFollow, inOrder, soundItems, readAwareness, wholeAwareness, awarenessPieces, isBlank, noNumbers, isBlankItem}
+use Rattle.items.specs.Language.{lastIs, validLanguage}
+use Rattle.items.specs.Parts.{holdsItems, holdsLanguage, noneOrLanguage}
 
 -- the line is taken
 abbrev taken : String → Bool
-taken s = fits (wholeAwareness (bytes s))
+taken s = isGot (wholeAwareness (bytes s))
 
 -- its canonical text
 abbrev rewritten : Got (List Item) → List ℕ
@@ -108,7 +109,7 @@ aprons : List ℕ → List ℕ
 aprons [] = []
 aprons (c ∷ cs) = bytes "APRON " ++ (c ∷ bytes " POOR.") ++ aprons cs
 
-count-most : (fits (wholeAwareness (aprons (bytes "0123456789ABCDEFGHIJKLMNOPQRSTUV"))) ≡ true) × (fits (wholeAwareness (aprons (bytes "0123456789ABCDEFGHIJKLMNOPQRSTUVW"))) ≡ false)
+count-most : (isGot (wholeAwareness (aprons (bytes "0123456789ABCDEFGHIJKLMNOPQRSTUV"))) ≡ true) × (isGot (wholeAwareness (aprons (bytes "0123456789ABCDEFGHIJKLMNOPQRSTUVW"))) ≡ false)
 unfolding readAwareness wholeAwareness awarenessPieces inOrder mayFollow mayRepeat otherApron sameRunway readItem readBody readForm readRunwayForm readTaxiForm readApronForm readBareForm readDetail readLength readBank readNeither readTaxiway readTaxiways readApron validItem numbersFit runwayFits amountFits edgeFits countFits isTaxiway validSlot isNew slotsFit taxiwaysFit nameFits onRunway onTaxiways itemText itemPieces validRunway readDigits digits readName run past readText skip spell _and_ readMany slots flat aprons
 count-most = (refl, refl)
 
@@ -117,9 +118,9 @@ read : Got (List Item) → List Item
 read misfit = []
 read (got is m) = is
 
-array-most : (validItemArray 32 (read (wholeAwareness (aprons (bytes "0123456789ABCDEFGHIJKLMNOPQRSTUV")))) ≡ true)
-    × (validItemArray 33 (map (λ c. apronItem (c ∷ [])) (bytes "0123456789ABCDEFGHIJKLMNOPQRSTUVW")) ≡ false)
-unfolding readAwareness wholeAwareness awarenessPieces inOrder mayFollow mayRepeat otherApron sameRunway readItem readBody readForm readRunwayForm readTaxiForm readApronForm readBareForm readDetail readLength readBank readNeither readTaxiway readTaxiways readApron validItem numbersFit runwayFits amountFits edgeFits countFits isTaxiway validSlot isNew slotsFit taxiwaysFit nameFits onRunway onTaxiways itemText itemPieces validRunway readDigits digits readName run past readText skip spell _and_ readMany slots flat aprons read validItemArray soundItems isBlankItem noNumbers isBlank
+array-most : (holdsItems (record { count = 32; items = read (wholeAwareness (aprons (bytes "0123456789ABCDEFGHIJKLMNOPQRSTUV"))) }) ≡ true)
+    × (holdsItems (record { count = 33; items = map (λ c. apronItem (c ∷ [])) (bytes "0123456789ABCDEFGHIJKLMNOPQRSTUVW") }) ≡ false)
+unfolding readAwareness wholeAwareness awarenessPieces inOrder mayFollow mayRepeat otherApron sameRunway readItem readBody readForm readRunwayForm readTaxiForm readApronForm readBareForm readDetail readLength readBank readNeither readTaxiway readTaxiways readApron validItem numbersFit runwayFits amountFits edgeFits countFits isTaxiway validSlot isNew slotsFit taxiwaysFit nameFits onRunway onTaxiways itemText itemPieces validRunway readDigits digits readName run past readText skip spell _and_ readMany slots flat aprons read holdsItems validItems soundItems isBlankItem noNumbers isBlank
 array-most = (refl, refl)
 
 -- plain language: the bytes that may stand in it, and the edges of its rules
@@ -149,7 +150,7 @@ unfolding isMark validLanguage lastIs _and_
 plain-lengths = (refl, refl)
 
 -- the same in a record's array: as long as it is, zeros behind
-plain-held : (validLanguageArray 400 (replicate 399 65 ++ bytes ".") ≡ true) × (validLanguageArray 401 (replicate 399 65 ++ bytes ".") ≡ false)
-    × (validLanguageArray 2 (bytes "A." ++ replicate 398 0) ≡ true) × (validLanguageArray 2 (bytes "A." ++ (replicate 397 0 ++ (1 ∷ []))) ≡ false)
-unfolding isMark validLanguage validLanguageArray lastIs _and_
+plain-held : (holdsLanguage (record { length = 400; bytes = replicate 399 65 ++ bytes "." }) ≡ true) × (holdsLanguage (record { length = 401; bytes = replicate 399 65 ++ bytes "." }) ≡ false)
+    × (holdsLanguage (record { length = 2; bytes = bytes "A." ++ replicate 398 0 }) ≡ true) × (holdsLanguage (record { length = 2; bytes = bytes "A." ++ (replicate 397 0 ++ (1 ∷ [])) }) ≡ false)
+unfolding isMark validLanguage holdsLanguage noneOrLanguage lastIs _and_
 plain-held = (refl, refl, refl, refl)

@@ -8,11 +8,11 @@ ghost use Rattle.text.specs.Names.{isName};
 ghost use Rattle.text.specs.Piece.{canonical, verbatim};
 ghost use Rattle.text.specs.Put.{Put};
 ghost use Rattle.text.specs.Arrays.{slots};
-ghost use Rattle.items.specs.Item.{letters, onRunway, highestRunway, isBetween, runwayFits, amountFits, edgeFits, countFits, validSlot, isNew, slotsFit, taxiwaysFit, nameFits, numbersFit, validItem};
-ghost use Rattle.items.specs.Awareness.{sameRunway, otherApron, mayRepeat, mayFollow, soundItems, isBlank, noNumbers, blankItem, isBlankItem, validItemArray};
+ghost use Rattle.items.specs.Item.{letters, onRunway, highestFor, isBetween, runwayFits, amountFits, edgeFits, countFits, validSlot, isNew, slotsFit, taxiwaysFit, nameFits, numbersFit, validItem};
+ghost use Rattle.items.specs.Awareness.{sameRunway, otherApron, mayRepeat, mayFollow, soundItems, isBlank, noNumbers, blankItem, isBlankItem};
 ghost use Rattle.items.specs.Parts.{holdsItems, holdsLanguage};
-ghost use Rattle.items.specs.Language.{validLanguage, validLanguageArray};
-ghost use Rattle.items.specs.Held.{SlotEnd};
+ghost use Rattle.items.specs.Language.{validLanguage};
+ghost use Rattle.items.specs.Code.Held.{SlotEnd};
 use fill::put;
 use runway::valid_runway;
 use scan::CAPITALS_AND_DIGITS;
@@ -118,7 +118,7 @@ fn on_runway(letter: u8) -> bool
 
 // Runways of item I go up to 36.
 fn highest_runway(letter: u8) -> u8
-    ensures { λ r. ⌜ r ≡ highestRunway letter ⌝ }
+    ensures { λ r. ⌜ r ≡ highestFor letter ⌝ }
 {
     if letter == b'I' { 36 } else { 18 }
 }
@@ -458,24 +458,19 @@ fn blank_rest(items: [Item; 32], n: usize) -> bool
     true
 }
 
-fn valid_items(items: [Item; 32], count: u8) -> bool
-    ensures { λ r. ⌜ r ≡ validItemArray count items ⌝ }
+// Valid items in order, and zeros past the count.
+pub fn holds_items(i: Items) -> bool
+    ensures { λ b. ⌜ b ≡ holdsItems i ⌝ }
 {
-    if MOST_ITEMS < count {
+    if MOST_ITEMS < i.count {
         return false;
     }
-    let n = count as usize;
+    let items = i.items;
+    let n = i.count as usize;
     if valid_front(items, n) {
         return blank_rest(items, n);
     }
     false
-}
-
-pub fn holds_items(i: Items) -> bool
-    ensures { λ b. ⌜ b ≡ holdsItems i ⌝ }
-{
-    let items = i.items;
-    valid_items(items, i.count)
 }
 
 // ---- Plain language
@@ -499,29 +494,22 @@ pub fn valid_language(part: &[u8]) -> bool
     false
 }
 
-// The plain language of a record: its first bytes, and zeros past the length.
-fn valid_language_bytes(bytes: [u8; 400], length: u16) -> bool
-    ensures { λ r. ⌜ r ≡ validLanguageArray length bytes ⌝ }
-{
-    let n = length as usize;
-    if bytes.len() < n {
-        return false;
-    }
-    if valid_language(&bytes[..n]) {
-        return zeros_from(&bytes, n);
-    }
-    false
-}
-
 // No plain language, or plain language that is valid; zeros past the length.
 pub fn holds_language(l: Language) -> bool
     ensures { λ b. ⌜ b ≡ holdsLanguage l ⌝ }
 {
     let bytes = l.bytes;
-    if l.length == 0 {
+    let n = l.length as usize;
+    if bytes.len() < n {
+        return false;
+    }
+    if n == 0 {
         return zeros_from(&bytes, 0);
     }
-    valid_language_bytes(bytes, l.length)
+    if valid_language(&bytes[..n]) {
+        return zeros_from(&bytes, n);
+    }
+    false
 }
 
 // Puts the first `length` bytes.

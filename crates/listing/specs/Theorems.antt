@@ -10,7 +10,7 @@ use native.Mathlib.Omega.{arith}
 use Rattle.text.specs.Put.{Put}
 use Rattle.text.specs.Laws.Put.{measured}
 use Rattle.notice.specs.Reading.{reading}
-use Rattle.notice.specs.Theorems.{read-valid, fits}
+use Rattle.notice.specs.Theorems.{read-valid, never-too-long}
 use Rattle.listing.specs.Listing.{listing}
 use Rattle.listing.specs.Laws.{listed-accepted, listed-refused, accepted-size, refused-size}
 
@@ -23,7 +23,7 @@ short m = go (eqb (reading m .refusal) 0) refl
     go true e =
         let z = eqb-true (reading m .refusal) 0 e in
         let v = read-valid m (reading m) refl z in
-        rw (listed-accepted (reading m) z, length-append) (omega (arith, accepted-size (reading m .«record») v, fits (reading m .«record») v))
+        rw (listed-accepted (reading m) z, length-append) (omega (arith, accepted-size (reading m .«record») v, never-too-long (reading m .«record») v))
     go false e = rw (listed-refused (reading m) (eqb-false (reading m .refusal) 0 e)) (omega (arith, refused-size (reading m .refusal)))
 
 -- so its length is told whatever the buffer has

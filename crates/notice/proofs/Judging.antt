@@ -8,7 +8,7 @@ use lib.Dec.{eqb}
 use lib.ListN.{length, take, drop}
 use borrow.Author.Tests.{eq-eqb, ne-eqb, le-leb, lt-leb}
 use Rattle.text.specs.Choice.{pick}
-use Rattle.text.specs.Held.{Reached}
+use Rattle.text.specs.Code.Held.{Reached}
 use Rattle.text.specs.Lines.{lines, longest}
 use Rattle.text.specs.Laws.Held.{part-all}
 use Rattle.body.specs.declared.Rows.{Rows}
@@ -16,7 +16,7 @@ use Rattle.body.specs.declared.RowsRead.{RowsRead}
 use Rattle.text.specs.Out.{Out, refuse, taken, next, After, finished, more}
 use Rattle.body.specs.Rows.{rowsOf, makeRows}
 use Rattle.remarks.specs.Remarks.{Remarks, readRemarks}
-use Rattle.body.specs.Held.{RowsHeld}
+use Rattle.body.specs.Code.Held.{RowsHeld}
 use Rattle.text.specs.Laws.Out.{Numbered}
 use Rattle.remarks.specs.Laws.Remarks.{remarks-numbered}
 use Rattle.front.specs.declared.Front.{Front}
@@ -26,11 +26,11 @@ use Rattle.record.specs.declared.Reading.{Reading}
 use Rattle.record.specs.Record.{makeRecord}
 use Rattle.notice.specs.Reading.{agreeing, result, reading}
 use Rattle.record.specs.Answer.{accepted, refused}
-use Rattle.front.specs.Front.{headingOf, FrontHeld}
+use Rattle.front.specs.Code.Front.{headingOf, FrontHeld}
 use Rattle.remarks.specs.declared.RemarksRead.{RemarksRead}
-use Rattle.remarks.specs.Held.{remarksAnswer}
-use Rattle.notice.specs.Below.{readBelow}
-use Rattle.record.specs.Fitted.{partsMismatch, lastRefusal, recordOf}
+use Rattle.remarks.specs.Code.Held.{remarksAnswer}
+use Rattle.notice.specs.Code.Below.{readBelow}
+use Rattle.record.specs.Code.Fitted.{partsMismatch, lastRefusal, recordOf}
 use Rattle.notice.specs.Laws.Front.{front-is}
 
 -- the record of a front, rows and remarks, if its lines agree

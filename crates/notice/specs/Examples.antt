@@ -117,5 +117,5 @@ pub record Examples : Type 0 where
       ∷ []) ≡ 0 ∷ 10 ∷ 11 ∷ 12 ∷ []
 
 pub examples : Examples
-unfolding slots flat _and_ lines closed Lines.front ended run past isMark readCount readName readDigits digits spell skip readText readMany validRunway isShortMonth daysOf realDay realClock realTime later isContaminant isDeep isCoverage validCoverage leastDepth isReported validDepth validThird measurePieces readMeasure readCoverage readDescription thirdPieces readThird highest readGroup readFull readShort readWidth readRow threeThat validRow isBare isSix isDry isShort middlePieces widthPieces rowPieces addressesPieces readAddresses realFiling filingPieces readFiling headingPieces readHeading serialPieces readSerialLine aerodromePieces readAerodrome isLetters sameRunway otherApron mayRepeat mayFollow inOrder awarenessPieces readAwareness wholeAwareness onRunway onTaxiways runwayFits amountFits edgeFits countFits isTaxiway validSlot isNew slotsFit taxiwaysFit nameFits numbersFit validItem itemText itemPieces lastIs validLanguage wholeLanguage readLength readBank readNeither readDetail readTaxiway readTaxiways readApron readRunwayForm readTaxiForm readApronForm readBareForm readForm readBody readItem isAmong newRunways latestOf latestFrom latest readRows noticeLines notice noticeText mismatch agreeing readNotice reading Rows.sameRunway
+unfolding slots flat _and_ lines closed Lines.allButLast ended run past isMark readCount readName readDigits digits spell skip readText readMany validRunway isShortMonth daysOf realDay realClock realTime later isContaminant isDeep isCoverage validCoverage leastDepth isReported validDepth validThird measurePieces readMeasure readCoverage readDescription thirdPieces readThird highest readGroup readFull readShort readWidth readRow threeThat validRow isBare isSix isDry isShort middlePieces widthPieces rowPieces addressesPieces readAddresses realFiling filingPieces readFiling headingPieces readHeading serialPieces readSerialLine aerodromePieces readAerodrome isLetters sameRunway otherApron mayRepeat mayFollow inOrder awarenessPieces readAwareness wholeAwareness onRunway onTaxiways runwayFits amountFits edgeFits countFits isTaxiway validSlot isNew slotsFit taxiwaysFit nameFits numbersFit validItem itemText itemPieces lastIs validLanguage wholeLanguage readLength readBank readNeither readDetail readTaxiway readTaxiways readApron readRunwayForm readTaxiForm readApronForm readBareForm readForm readBody readItem isAmong newRunways latestOf latestFrom latest readRows noticeLines notice noticeText mismatch agreeing readNotice reading Rows.sameRunway
 examples = record { accepted = refl; rows = refl; items = refl; rewritten = refl; missing = refl; body = refl; remarks = refl; ninth = refl; differing = refl }

@@ -3,7 +3,7 @@ pub mod Reading
 pub mod Writing
 pub mod Rewriting
 pub mod Same
-pub mod Below
+pub mod Code
 pub mod Laws
 pub mod Theorems
 pub mod Examples

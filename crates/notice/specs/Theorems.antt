@@ -54,8 +54,8 @@ complete m r v t l =
     rw (le-leb (length m) 4096 l, notice-complete (partsOf r) g s) (ap accepted (made-back r v))
 
 -- every valid record's text has at most 4,096 bytes
-pub fits : (r : Record) → validRecord r ≡ true → length (noticeText r) ≤ 4096
-fits = text-fits
+pub never-too-long : (r : Record) → validRecord r ≡ true → length (noticeText r) ≤ 4096
+never-too-long = text-fits
 
 -- a written valid record reads back as that record
 pub back : (r : Record) → validRecord r ≡ true → reading (noticeText r) ≡ accepted r

@@ -1,25 +1,27 @@
 -- Writing a record: "13, 14: record invalid; buffer shorter than the text", and when two messages tell the same.
 use Prim.Native.Nat.{ℕ}
 use mathlib.Core.Path.{_≡_}
-use mathlib.Core.List.{List, _++_}
+use mathlib.Core.List.{[], _∷_, List, _++_}
 use lib.Dec.{leb}
 use lib.ListN.{length, drop}
-use Rattle.text.specs.Choice.{pick}
+use Rattle.text.specs.Choice.{_else_, firstFailing, pick}
 use Rattle.record.specs.declared.Record.{Record}
 use Rattle.notice.specs.declared.Written.{Written}
 use Rattle.record.specs.Record.{validRecord}
 use Rattle.record.specs.Notice.{noticeText}
+use Rattle.text.specs.Refusals.{invalidRecord, bufferTooShort}
 
 -- "Refused writing reports length 0"
 abbrev pub unwritten : ℕ → Written
 unwritten n = record { refusal = n; length = 0 }
 
--- the answer to a record and a buffer with room for so many bytes
+-- "13, 14": the answer to a record and a buffer with room for so many bytes
 unfoldable pub writing : Record → ℕ → Written
 writing r room =
-    pick (validRecord r)
-    (pick (leb (length (noticeText r)) room) (record { refusal = 0; length = length (noticeText r) }) (unwritten 14))
-    (unwritten 13)
+    firstFailing (
+    validRecord r else unwritten invalidRecord
+    ∷ leb (length (noticeText r)) room else unwritten bufferTooShort
+    ∷ []) (record { refusal = 0; length = length (noticeText r) })
 
 -- "Accepted writing fills exactly the text's length; later bytes stay"; a refused one touches no byte
 unfoldable pub written : Record → List ℕ → List ℕ

@@ -30,6 +30,7 @@ use sameness::same_rows;
 use sameness::same_title;
 use text::LONGEST;
 use text::place;
+use text::refusal;
 
 // A refusal number, 0 for written, and how many bytes were filled.
 pub struct Written {
@@ -37,15 +38,13 @@ pub struct Written {
     pub length: usize,
 }
 
-const TOO_LONG: u8 = 1;
-
 // Reads a message: 1 first, then line by line, where the first line that does not fit decides; 10, 11, 12 at the end. The parts meet here, so that
 // none is handed on from answer to answer.
 pub fn read(message: &[u8]) -> Reading
     ensures { λ r. ⌜ r ≡ reading (now (message .entry)) ⌝ }
 {
     if LONGEST < message.len() {
-        return refused(TOO_LONG);
+        return refused(refusal::TOO_LONG);
     }
     let opening = read_front(message);
     if opening.refusal != 0 {
@@ -78,7 +77,7 @@ fn text_size(r: Record) -> usize
 }
 
 // The text fits into so many bytes: the longest is known, and only a shorter buffer is measured against the text.
-fn fits(r: Record, room: usize) -> bool
+fn has_room(r: Record, room: usize) -> bool
     requires { ⌜ validRecord r ≡ true ⌝ }
     ensures { λ b. ⌜ b ≡ leb (length (noticeText r)) room ⌝ }
 {
@@ -88,21 +87,17 @@ fn fits(r: Record, room: usize) -> bool
     text_size(r) <= room
 }
 
-const INVALID: u8 = 13;
-
-const TOO_SHORT: u8 = 14;
-
 // Writes the text of a valid record: 14 where the buffer is too short for it.
 fn write_valid(r: Record, buffer: &mut [u8]) -> Written
     requires { ⌜ validRecord r ≡ true ⌝ }
     ensures { λ w. ⌜ Wrote r (now (buffer .entry)) (now (buffer .exit)) w ⌝ }
 {
-    if fits(r, buffer.len()) {
+    if has_room(r, buffer.len()) {
         let length = put_notice(buffer, r);
         return Written { refusal: 0, length };
     }
     Written {
-        refusal: TOO_SHORT,
+        refusal: refusal::BUFFER_TOO_SHORT,
         length: 0,
     }
 }
@@ -115,7 +110,7 @@ pub fn write(r: Record, buffer: &mut [u8]) -> Written
         return write_valid(r, buffer);
     }
     Written {
-        refusal: INVALID,
+        refusal: refusal::INVALID_RECORD,
         length: 0,
     }
 }

@@ -16,7 +16,7 @@ use Rattle.row.specs.declared.Row.{Row}
 use Rattle.row.specs.Row.{threeThat, validRow}
 use Rattle.row.specs.Agreement.{agreement}
 use Rattle.phengaryl.specs.Numbers.{rowOf}
-use Rattle.phengaryl.specs.Narrow.{narrow, narrowThird}
+use Rattle.phengaryl.specs.Code.Narrow.{narrow, narrowThird}
 
 -- a number below 255, before or after, was not changed
 narrow-below : (x : ℕ) → x ≤ 254 → narrow x ≡ x

@@ -1,4 +1,4 @@
 -- Numbers from and to C; how the code holds them.
 pub mod Numbers
-pub mod Narrow
+pub mod Code
 pub mod Tables

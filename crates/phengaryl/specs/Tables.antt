@@ -3,7 +3,7 @@ use mathlib.Core.Path.{_≡_, refl}
 use mathlib.Core.List.{[], _∷_, map}
 use Rattle.surface.specs.Third.{third}
 use Rattle.phengaryl.specs.Numbers.{numbersOf, thirdsOf}
-use Rattle.phengaryl.specs.Narrow.{narrow}
+use Rattle.phengaryl.specs.Code.Narrow.{narrow}
 
 pub record Numbers : Type 0 where
   out : numbersOf (third 1 2 3 4) ≡ 1 ∷ 2 ∷ 3 ∷ 4 ∷ []

@@ -12,7 +12,7 @@ ghost use Rattle.notice.specs.Same.{SaysSame};
 ghost use Rattle.desktext.specs.Desk.{deskText};
 ghost use Rattle.listing.specs.Listing.{listing};
 ghost use Rattle.phengaryl.specs.Numbers.{observed, numbersOf, thirdAt, thirdsOf, rowOf};
-ghost use Rattle.phengaryl.specs.Narrow.{narrow, narrowThird};
+ghost use Rattle.phengaryl.specs.Code.Narrow.{narrow, narrowThird};
 use desktext::desk;
 use listing::list;
 use notice::read;

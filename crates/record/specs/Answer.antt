@@ -1,23 +1,24 @@
 -- The answer to a message: refused by number with the blank record, or taken; and whether its lines agree.
 use Prim.Native.Nat.{ℕ}
-use mathlib.Core.List.{List}
+use mathlib.Core.List.{[], _∷_, List}
 use lib.Dec.{eqb}
-use Rattle.text.specs.Choice.{pick, sameBytes}
+use Rattle.text.specs.Choice.{_else_, firstFailing, sameBytes}
 use Rattle.row.specs.declared.Row.{Row}
 use Rattle.frontlines.specs.Heading.{Heading}
 use Rattle.body.specs.Rows.{latest}
 use Rattle.record.specs.declared.Record.{Record}
 use Rattle.record.specs.declared.Reading.{Reading}
 use Rattle.record.specs.Record.{blankRecord}
+use Rattle.text.specs.Refusals.{serialsDiffer, aerodromesDiffer, notLatestTime}
 
 -- "serials differ; aerodromes differ; heading time not the latest": 10, 11, 12, or 0 where the lines agree
 unfoldable pub mismatch : Heading → ℕ → List ℕ → List Row → ℕ
 mismatch h serial aerodrome rows =
-    pick (eqb (h .title .serial) serial)
-    (pick (sameBytes (h .title .aerodrome) aerodrome)
-    (pick (eqb (h .time) (latest rows)) 0 12)
-    11)
-    10
+    firstFailing (
+    eqb (h .title .serial) serial else serialsDiffer
+    ∷ sameBytes (h .title .aerodrome) aerodrome else aerodromesDiffer
+    ∷ eqb (h .time) (latest rows) else notLatestTime
+    ∷ []) 0
 
 -- the answer to a message that is taken
 abbrev pub accepted : Record → Reading

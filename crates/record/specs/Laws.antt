@@ -9,7 +9,7 @@ use Rattle.rowtext.specs.Text.{rowPieces}
 use Rattle.frontlines.specs.Addresses.{addressesPieces}
 use Rattle.frontlines.specs.Filing.{filingPieces}
 use Rattle.frontlines.specs.Heading.{headingPieces, serialPieces, aerodromePieces}
-use Rattle.front.specs.Front.{frontText}
+use Rattle.front.specs.Code.Front.{frontText}
 use Rattle.body.specs.Rows.{rowsOf, latest}
 use Rattle.items.specs.Parts.{itemsOf, languageOf}
 use Rattle.remarks.specs.Remarks.{remarkLines}

@@ -2,6 +2,6 @@
 pub mod Record
 pub mod Notice
 pub mod Answer
-pub mod Fitted
+pub mod Code
 pub mod Laws
 pub mod Tables

@@ -9,7 +9,7 @@ use Rattle.frontlines.specs.declared.Title.{Title}
 use Rattle.frontlines.specs.Addresses.{validAddresses}
 use Rattle.frontlines.specs.Filing.{validFiling}
 use Rattle.frontlines.specs.Heading.{validTitle}
-use Rattle.frontlines.specs.Answers.{blankAddresses, blankFiling, blankTitle}
+use Rattle.frontlines.specs.Code.Answers.{blankAddresses, blankFiling, blankTitle}
 use Rattle.body.specs.Rows.{makeRows, validRows}
 use Rattle.remarks.specs.Remarks.{Remarks}
 use Rattle.items.specs.Parts.{makeItems, makeLanguage, holdsItems, holdsLanguage}

@@ -16,8 +16,8 @@ use Rattle.record.specs.Answer.{mismatch}
 use Rattle.body.specs.Rows as Rows
 use Rattle.body.specs.declared.Rows.{Rows}
 use Rattle.front.specs.declared.Front.{Front}
-use Rattle.front.specs.Front.{blankFront}
-use Rattle.record.specs.Fitted.{partsMismatch, lastRefusal}
+use Rattle.front.specs.Code.Front.{blankFront}
+use Rattle.record.specs.Code.Fitted.{partsMismatch, lastRefusal}
 
 -- parts that fit, each by itself: a front with these serials, aerodrome and time, over a row of 01120640
 abbrev front : ℕ → ℕ → String → ℕ → Front

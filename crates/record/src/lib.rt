@@ -8,7 +8,7 @@ ghost use Rattle.items.specs.Parts.{holdsItems, holdsLanguage};
 ghost use Rattle.record.specs.Record.{blankRecord, validRecord};
 ghost use Rattle.record.specs.Notice.{noticeText};
 ghost use Rattle.record.specs.Answer.{accepted, refused};
-ghost use Rattle.record.specs.Fitted.{partsMismatch, lastRefusal, recordOf};
+ghost use Rattle.record.specs.Code.Fitted.{partsMismatch, lastRefusal, recordOf};
 use body::Rows;
 use body::latest_time;
 use body::put_rows;
@@ -32,6 +32,7 @@ use remarks::no_remarks;
 use remarks::put_remarks;
 use row::blank_row;
 use scan::same_bytes;
+use text::refusal;
 
 // What a message says, part by part; the heading time is the latest row time and is not stored.
 pub struct Record {
@@ -57,15 +58,15 @@ fn mismatch(front: Front, rows: Rows) -> u8
 {
     let title = front.title;
     if title.serial as u32 != front.serial {
-        return 10;
+        return refusal::SERIALS_DIFFER;
     }
     let given = title.aerodrome;
     let again = front.aerodrome;
     if !same_bytes(&given, &again) {
-        return 11;
+        return refusal::AERODROMES_DIFFER;
     }
     if front.time != latest_time(rows) {
-        return 12;
+        return refusal::NOT_LATEST_TIME;
     }
     0
 }

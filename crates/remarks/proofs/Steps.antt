@@ -10,8 +10,8 @@ use lib.Seq.{take-all, take-take, length-take-le}
 use borrow.Author.Tests.{ne-eqb, lt-ltb, le-ltb}
 use Rattle.text.specs.Choice.{pick, isEmpty}
 use Rattle.text.specs.Read.{Got, misfit, got, guard}
-use Rattle.text.specs.Held.{firstLine}
-use Rattle.text.specs.Lines.{lines, lineSize, lineStep, closed, front, opened}
+use Rattle.text.specs.Code.Held.{firstLine}
+use Rattle.text.specs.Lines.{lines, lineSize, lineStep, closed, allButLast, lineText}
 use Rattle.text.specs.declared.Line.{Line}
 use Rattle.text.specs.Laws.Arrays.{take-front}
 use Rattle.text.specs.Laws.Held.{part-all}
@@ -21,61 +21,61 @@ use Rattle.items.specs.Awareness.{readAwareness, wholeAwareness}
 use Rattle.items.specs.Language.{validLanguage, wholeLanguage}
 use Rattle.items.specs.Laws.Language.{language-short}
 use Rattle.awareness.specs.declared.ItemsRead.{ItemsRead}
-use Rattle.awareness.specs.Held.{itemsAnswer}
+use Rattle.awareness.specs.Code.Held.{itemsAnswer}
 use Rattle.items.specs.declared.Language.{Language}
 use Rattle.text.specs.Out.{refuse, fit, atEnd, more}
 use Rattle.items.specs.Parts.{makeLanguage}
 use Rattle.remarks.specs.Remarks.{remarks, readLanguageLine, readRemarks}
 use Rattle.remarks.specs.declared.RemarksRead.{RemarksRead}
 use Rattle.remarks.specs.declared.Tail.{Tail}
-use Rattle.remarks.specs.Held.{noRemarks, remarksAnswer, noTail, ending, lastItems, lastLanguage, nextLanguage, itemsStep, joined}
+use Rattle.remarks.specs.Code.Held.{noRemarks, remarksAnswer, noTail, ending, lastItems, lastLanguage, nextLanguage, itemsStep, joined}
 
 -- the text of a line: all of it but the `)` that closes
 module _ (l : List ℕ) where
-  pub closed-size : closed l ≡ true → length l - 1 ≡ length (opened l)
+  pub closed-size : closed l ≡ true → length l - 1 ≡ length (lineText l)
   closed-size e = rw (e, front-part l, length-take) (omega arith)
 
-  pub open-size : closed l ≡ false → length l ≡ length (opened l)
+  pub open-size : closed l ≡ false → length l ≡ length (lineText l)
   open-size e = rw e
 
-  text-part : take (length (opened l)) l ≡ opened l
+  text-part : take (length (lineText l)) l ≡ lineText l
   text-part = go (closed l) refl
     where
-      go : (b : Bool) → closed l ≡ b → take (length (pick b (front l) l)) l ≡ pick b (front l) l
-      go true e = ap (take (length (front l))) (closed-is l e) ∙ take-front (front l) (41 ∷ [])
+      go : (b : Bool) → closed l ≡ b → take (length (pick b (allButLast l) l)) l ≡ pick b (allButLast l) l
+      go true e = ap (take (length (allButLast l))) (closed-is l e) ∙ take-front (allButLast l) (41 ∷ [])
       go false e = take-all (length l) l (omega arith)
 
-  text-short : length (opened l) ≤ length l
+  text-short : length (lineText l) ≤ length l
   text-short = omega (arith, simp length-take at (ap length text-part))
 
-  text-shut : ltb (length (opened l)) (length l) ≡ closed l
+  text-shut : ltb (length (lineText l)) (length l) ≡ closed l
   text-shut = go (closed l) refl
     where
-      go : (b : Bool) → closed l ≡ b → ltb (length (pick b (front l) l)) (length l) ≡ b
-      go true e = lt-ltb (length (front l)) (length l) (omega (arith, ap length (closed-is l e), length-append (front l) (41 ∷ [])))
+      go : (b : Bool) → closed l ≡ b → ltb (length (pick b (allButLast l) l)) (length l) ≡ b
+      go true e = lt-ltb (length (allButLast l)) (length l) (omega (arith, ap length (closed-is l e), length-append (allButLast l) (41 ∷ [])))
       go false e = le-ltb (length l) (length l) (omega arith)
 
--- the same of the line at the front of a message
-module _ (m : List ℕ) (line : Line) (f : line ≡ firstLine m) (n : ℕ) (e : n ≡ length (opened (take (line .size) m))) where
+-- the same of the line at the allButLast of a message
+module _ (m : List ℕ) (line : Line) (f : line ≡ firstLine m) (n : ℕ) (e : n ≡ length (lineText (take (line .size) m))) where
   line-size : length (take (line .size) m) ≡ line .size
   line-size = length-take-le (line .size) m (first-within m f .0)
 
   pub text-within : n ≤ line .size
   text-within = omega (arith, text-short (take (line .size) m), line-size)
 
-  text-there : take n m ≡ opened (take (lineSize m) m)
+  text-there : take n m ≡ lineText (take (lineSize m) m)
   text-there = sym (take-take n (line .size) m text-within) ∙ rw (e, text-part (take (line .size) m), f)
 
   text-shut-there : ltb n (line .size) ≡ closed (take (lineSize m) m)
-  text-shut-there = rw e (ap (ltb (length (opened (take (line .size) m)))) (sym line-size) ∙ text-shut (take (line .size) m) ∙ rw f)
+  text-shut-there = rw e (ap (ltb (length (lineText (take (line .size) m)))) (sym line-size) ∙ text-shut (take (line .size) m) ∙ rw f)
 
--- the text of the first line stands at the front of the message
-text-first : (m : List ℕ) → take (length (opened (take (lineSize m) m))) m ≡ opened (take (lineSize m) m)
+-- the text of the first line stands at the allButLast of the message
+text-first : (m : List ℕ) → take (length (lineText (take (lineSize m) m))) m ≡ lineText (take (lineSize m) m)
 text-first m = text-there m (firstLine m) refl _ refl
 
 -- behind items that fit
 module _ (is : List Item) (k : List ℕ) where
-  -- the plain language t stands at the front of m
+  -- the plain language t stands at the allButLast of m
   end-says : (t m rest : List ℕ) → take (length t) m ≡ t → joined (itemsAnswer (got is k)) (ending (length t) (length rest)) m ≡ remarksAnswer (atEnd (lines rest) (remarks is t))
   unfolding joined ending lines
   end-says t m [] e = rw e
@@ -96,7 +96,7 @@ module _ (is : List Item) (k : List ℕ) where
   language-says [] = refl
   language-says (x ∷ m) =
       let rest = drop (lineStep (x ∷ m)) (x ∷ m) in
-      rw (← length-drop (lineStep (x ∷ m)) (x ∷ m), lines-first x m) (closed-says (closed (take (lineSize (x ∷ m)) (x ∷ m))) (opened (take (lineSize (x ∷ m)) (x ∷ m))) (x ∷ m) rest (text-first (x ∷ m)))
+      rw (← length-drop (lineStep (x ∷ m)) (x ∷ m), lines-first x m) (closed-says (closed (take (lineSize (x ∷ m)) (x ∷ m))) (lineText (take (lineSize (x ∷ m)) (x ∷ m))) (x ∷ m) rest (text-first (x ∷ m)))
 
 -- the items and what stands behind them, as they are answered
 abbrev below : ItemsRead → Bool → List ℕ → RemarksRead
@@ -111,10 +111,10 @@ items-says (got (i ∷ is) j) true rest = rw (ne-eqb (suc (length is)) 0 (omega 
 items-says (got is j) false rest = language-says is j rest
 
 -- the first line of what is left; where nothing is left it is empty, and so is the line behind it
-first-says : (m : List ℕ) → below (itemsAnswer (wholeAwareness (opened (take (lineSize m) m)))) (closed (take (lineSize m) m)) (drop (lineStep m) m) ≡ remarksAnswer (readRemarks (more (lines m)))
+first-says : (m : List ℕ) → below (itemsAnswer (wholeAwareness (lineText (take (lineSize m) m)))) (closed (take (lineSize m) m)) (drop (lineStep m) m) ≡ remarksAnswer (readRemarks (more (lines m)))
 unfolding joined itemsStep nextLanguage lines lineSize lineStep closed wholeAwareness readAwareness
 first-says [] = refl
-first-says (x ∷ m) = rw (lines-first x m) (items-says (wholeAwareness (opened (take (lineSize (x ∷ m)) (x ∷ m)))) (closed (take (lineSize (x ∷ m)) (x ∷ m))) (drop (lineStep (x ∷ m)) (x ∷ m)))
+first-says (x ∷ m) = rw (lines-first x m) (items-says (wholeAwareness (lineText (take (lineSize (x ∷ m)) (x ∷ m)))) (closed (take (lineSize (x ∷ m)) (x ∷ m))) (drop (lineStep (x ∷ m)) (x ∷ m)))
 
 -- a tail's plain language stands in what is left, and its array takes it
 record Kept (rest : List ℕ) (t : Tail) : Type 0 where
@@ -135,7 +135,7 @@ ending-kept rest n left h k = pick-kept (eqb left 0) (λ _. record { inside = h;
 language-kept : (m : List ℕ) → Kept m (nextLanguage m)
 unfolding nextLanguage lastLanguage
 language-kept m =
-    let l = opened (take (lineSize m) m) in
+    let l = lineText (take (lineSize m) m) in
     let w : length l ≤ length m = omega (arith, simp length-take at (ap length (text-first m))) in
     pick-kept (closed (take (lineSize m) m)) (λ _. pick-kept (validLanguage l) (λ v. ending-kept m (length l) _ w (language-short l v)) (none-kept m 9)) (none-kept m 4)
 
@@ -145,7 +145,7 @@ tail-kept fits count c rest =
     pick-kept fits (λ _. pick-kept c (λ _. pick-kept (eqb count 0) (λ _. none-kept rest 8) (ending-kept rest 0 (length rest) (omega arith) (omega arith))) (language-kept rest)) (none-kept rest 8)
 
 -- the answers of the code
-module _ (m : List ℕ) (line : Line) (f : line ≡ firstLine m) (n : ℕ) (e : n ≡ length (opened (take (line .size) m))) where
+module _ (m : List ℕ) (line : Line) (f : line ≡ firstLine m) (n : ℕ) (e : n ≡ length (lineText (take (line .size) m))) where
   pub language-closed : n < line .size → nextLanguage m ≡ lastLanguage (take n m) (length m - line .next)
   unfolding nextLanguage
   language-closed h = rw (← text-there m line f n e, ← text-shut-there m line f n e, lt-ltb n (line .size) h, f)
@@ -164,7 +164,7 @@ pub record Below (m : List ℕ) : Type 0 where
   pub read : ItemsRead
   pub tail : Tail
   pub first : line ≡ firstLine m
-  pub sized : size ≡ length (opened (take (line .size) m))
+  pub sized : size ≡ length (lineText (take (line .size) m))
   pub items : read ≡ itemsAnswer (wholeAwareness (take size m))
   pub behind : tail ≡ itemsStep (read .fits) (read .count) (ltb size (line .size)) (take (length m - line .next) (drop (line .next) m))
 

@@ -3,11 +3,12 @@ use Prim.Native.Nat.{ℕ}
 use mathlib.Core.List.{List, [], _∷_}
 use Rattle.text.specs.Choice.{pick, _and_, isEmpty}
 use Rattle.text.specs.Piece.{Piece, verbatim}
-use Rattle.text.specs.Lines.{closed, opened}
+use Rattle.text.specs.Lines.{closed, lineText}
 use Rattle.items.specs.declared.Item.{Item}
 use Rattle.items.specs.Awareness.{awarenessPieces, wholeAwareness}
 use Rattle.items.specs.Language.{wholeLanguage}
 use Rattle.text.specs.Out.{Out, refuse, taken, fit, atEnd, After, finished, more}
+use Rattle.text.specs.Refusals.{outline, wrongItems, wrongLanguage}
 
 -- "if there is plain language, its line"
 abbrev pub languageLines : List ℕ → List (List Piece)
@@ -30,12 +31,12 @@ remarks is l = record { items = is; language = l }
 
 -- "plain language lacking `)` gives 4 at once"; 9 where it does not fit
 abbrev pub readLanguageLine : List Item → List (List ℕ) → Out Remarks
-readLanguageLine is [] = refuse 4
-readLanguageLine is (l ∷ ls) = pick (closed l) (fit 9 (wholeLanguage (opened l)) (λ p. atEnd ls (remarks is p))) (refuse 4)
+readLanguageLine is [] = refuse outline
+readLanguageLine is (l ∷ ls) = pick (closed l) (fit wrongLanguage (wholeLanguage (lineText l)) (λ p. atEnd ls (remarks is p))) (refuse outline)
 
 -- the awareness line: 8, also where it is "empty before `)`"; a missing line is 4
 abbrev pub readRemarks : After → Out Remarks
 readRemarks finished = taken (remarks [] [])
-readRemarks (more []) = refuse 4
-readRemarks (more (l ∷ ls)) = fit 8 (wholeAwareness (opened l)) (λ is.
-    pick (closed l) (pick (isEmpty is) (refuse 8) (atEnd ls (remarks is []))) (readLanguageLine is ls))
+readRemarks (more []) = refuse outline
+readRemarks (more (l ∷ ls)) = fit wrongItems (wholeAwareness (lineText l)) (λ is.
+    pick (closed l) (pick (isEmpty is) (refuse wrongItems) (atEnd ls (remarks is []))) (readLanguageLine is ls))

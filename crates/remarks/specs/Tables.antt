@@ -7,14 +7,14 @@ use lib.ListN.{replicate}
 use Rattle.text.specs.Choice.{_and_}
 use Rattle.text.specs.Piece.{bytes}
 use Rattle.text.specs.Names.{isMark}
-use Rattle.text.specs.Lines.{endSize, lineSize, lineStep, closed, front}
+use Rattle.text.specs.Lines.{endSize, lineSize, lineStep, closed, allButLast}
 use Rattle.text.specs.Out.{more, refuse, taken}
 use Rattle.items.specs.Item.{letterJ}
 use Rattle.items.specs.ReadItem.{bareItem}
 use Rattle.items.specs.Language.{lastIs, validLanguage}
 use Rattle.remarks.specs.Remarks.{readLanguageLine, readRemarks, remarks}
 use Rattle.remarks.specs.declared.Tail.{Tail}
-use Rattle.remarks.specs.Held.{noRemarks, remarksAnswer, noTail, ending, lastItems, lastLanguage, nextLanguage, itemsStep, joined}
+use Rattle.remarks.specs.Code.Held.{noRemarks, remarksAnswer, noTail, ending, lastItems, lastLanguage, nextLanguage, itemsStep, joined}
 
 abbrev said : ℕ → Tail
 said n = record { refusal = 0; size = n }
@@ -43,5 +43,5 @@ pub record Answers : Type 0 where
   apart : map (λ n. joined (record { fits = true; count = 1; items = bareItem letterJ ∷ [] }) (noTail n) []) (1 ∷ 9 ∷ []) ≡ noRemarks 1 ∷ noRemarks 9 ∷ []
 
 pub answers : Answers
-unfolding _and_ isMark endSize lineSize lineStep closed front lastIs validLanguage ending lastItems lastLanguage nextLanguage itemsStep joined
+unfolding _and_ isMark endSize lineSize lineStep closed allButLast lastIs validLanguage ending lastItems lastLanguage nextLanguage itemsStep joined
 answers = record { no-remarks = refl; refused = refl; read = refl; no-items = refl; no-language = refl; no-tail = refl; ends = refl; empty = refl; last = refl; languages = refl; behind = refl; steps = refl; last-step = refl; together = refl; apart = refl }

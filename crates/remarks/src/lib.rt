@@ -5,13 +5,13 @@ ghost use Prim.Native.Nat.{_≤_};
 ghost use lib.ListN.{length};
 ghost use Rattle.text.specs.Choice.{pick, _and_, isEmpty};
 ghost use Rattle.text.specs.Piece.{canonical, verbatim};
-ghost use Rattle.text.specs.Lines.{lines, opened, under};
+ghost use Rattle.text.specs.Lines.{lines, lineText, under};
 ghost use Rattle.text.specs.Put.{Put};
 ghost use Rattle.items.specs.Awareness.{awarenessPieces};
 ghost use Rattle.text.specs.Out.{finished, more};
 ghost use Rattle.items.specs.Parts.{itemsOf, languageOf, makeLanguage};
 ghost use Rattle.remarks.specs.Remarks.{languageLines, remarkLines, readRemarks};
-ghost use Rattle.remarks.specs.Held.{noRemarks, remarksAnswer, noTail, ending, lastItems, lastLanguage, nextLanguage, itemsStep};
+ghost use Rattle.remarks.specs.Code.Held.{noRemarks, remarksAnswer, noTail, ending, lastItems, lastLanguage, nextLanguage, itemsStep};
 use awareness::read_awareness;
 use fill::put;
 use fill::told_behind;
@@ -23,6 +23,7 @@ use items::valid_language;
 use text::first_line;
 use text::is_closed;
 use text::place;
+use text::refusal;
 use wording::put_awareness;
 
 // Neither items nor plain language.
@@ -87,7 +88,7 @@ pub struct RemarksRead {
 
 // How many bytes of a line stand before the `)` that closes it.
 fn text_size(line: &[u8]) -> usize
-    ensures { λ n. ⌜ n ≡ length (opened (now (line .entry))) ⌝ }
+    ensures { λ n. ⌜ n ≡ length (lineText (now (line .entry))) ⌝ }
 {
     let n = line.len();
     if is_closed(line) {
@@ -133,7 +134,7 @@ fn ending(size: usize, left: usize) -> Tail
     if left == 0 {
         return Tail { refusal: 0, size };
     }
-    no_tail(4)
+    no_tail(refusal::OUTLINE)
 }
 
 // An awareness line that `)` closes is the last: 8 where it is empty.
@@ -141,7 +142,7 @@ fn last_items(count: u8, left: usize) -> Tail
     ensures { λ t. ⌜ t ≡ lastItems count left ⌝ }
 {
     if count == 0 {
-        return no_tail(8);
+        return no_tail(refusal::WRONG_ITEMS);
     }
     ending(0, left)
 }
@@ -153,7 +154,7 @@ fn last_language(text: &[u8], left: usize) -> Tail
     if valid_language(text) {
         return ending(text.len(), left);
     }
-    no_tail(9)
+    no_tail(refusal::WRONG_LANGUAGE)
 }
 
 // The line of plain language at the front of `m`: 4 where it is missing, which is an empty line, and at once where it lacks `)`.
@@ -166,7 +167,7 @@ fn next_language(m: &[u8]) -> Tail
     if text < size {
         return last_language(&m[..text], m.len() - line.next);
     }
-    no_tail(4)
+    no_tail(refusal::OUTLINE)
 }
 
 // What stands behind an awareness line: `count` items, if it fits, with `rest` behind it; 8 where it does not fit.
@@ -179,7 +180,7 @@ fn items_step(fits: bool, count: u8, closed: bool, rest: &[u8]) -> Tail
         }
         return next_language(rest);
     }
-    no_tail(8)
+    no_tail(refusal::WRONG_ITEMS)
 }
 
 // Plain language in its array, with zeros behind it.

@@ -7,6 +7,7 @@ use Rattle.surface.specs.declared.Third.{Third}
 use Rattle.row.specs.Row.{validRow}
 use Rattle.row.specs.declared.Row.{Row}
 use Rattle.row.specs.declared.Agreement.{Agreement}
+use Rattle.text.specs.Refusals.{invalidRow}
 
 -- 1 for a third whose code Table 1 does not allow
 unfoldable pub disagrees : Third → ℕ
@@ -16,10 +17,6 @@ disagrees t = pick (agrees t) 0 1
 unfoldable pub disagreements : List Third → ℕ
 disagreements [] = 0
 disagreements (t ∷ ts) = disagrees t + disagreements ts
-
--- "row invalid"
-abbrev pub invalidRow : ℕ
-invalidRow = 19
 
 -- "An invalid row is refused (19, count 0)"
 unfoldable pub agreement : Row → Agreement

@@ -15,6 +15,7 @@ use surface::agrees;
 use surface::description;
 use surface::is_blank_third;
 use surface::valid_third;
+use text::refusal;
 
 // In every field 0 stands for NR and for what is missing.
 pub struct Row {
@@ -167,8 +168,6 @@ pub struct Agreement {
     pub count: u8,
 }
 
-pub const INVALID_ROW: u8 = 19;
-
 fn disagrees(t: Third) -> u8
     ensures { λ r. ⌜ r ≡ disagrees t ⌝ }
 {
@@ -199,7 +198,7 @@ pub fn disagreeing(row: Row) -> Agreement
         };
     }
     Agreement {
-        refusal: INVALID_ROW,
+        refusal: refusal::INVALID_ROW,
         count: 0,
     }
 }

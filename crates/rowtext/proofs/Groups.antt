@@ -16,8 +16,9 @@ use Rattle.runway.specs.Runway.{readRunway}
 use Rattle.thirds.specs.Groups.{Three, codes, readGroup}
 use Rattle.row.specs.Row.{blankRow, validRow}
 use Rattle.rowtext.specs.Text.{numbersOf}
-use Rattle.rowtext.specs.Reading.{Rest, makeRow, readRest, readWidth, readGroups, readRow, wholeRow, refusedRow, answer}
-use Rattle.rowtext.specs.Filling.{withTime, withRunway, withCodes, withRest, withWidth, groupCount, fillGroup, fillFrom, Filled, judgedRow}
+use Rattle.rowtext.specs.Reading.{Rest, makeRow, readRest, readWidth, readGroups, readRow, wholeRow, rowAnswer}
+use Rattle.text.specs.Refusals.{noRow}
+use Rattle.rowtext.specs.Code.Filling.{withTime, withRunway, withCodes, withRest, withWidth, groupCount, fillGroup, fillFrom, Filled, judgedRow}
 use Rattle.row.specs.declared.Row.{Row}
 use Rattle.rowtext.specs.declared.Step.{Step}
 
@@ -87,7 +88,7 @@ module _ (l : List ℕ) (at g : ℕ) (r : Row) (part : List ℕ) (s : Step) (e :
 
 -- what the groups of a line decide
 module _ (l : List ℕ) where
-  line-off : fillFrom groupCount 0 blankRow l ≡ misfit → answer (wholeRow l) ≡ answer misfit
+  line-off : fillFrom groupCount 0 blankRow l ≡ misfit → rowAnswer (wholeRow l) ≡ rowAnswer misfit
   unfolding readRow
   line-off e = rw (sym (groups-are l) ∙ e)
 
@@ -96,34 +97,34 @@ module _ (l : List ℕ) where
     unfolding readRow
     read-is = rw (sym (groups-are l) ∙ e)
 
-    go-end : (b : Bool) → k ≡ [] → answer (whole (guard b (got r k))) ≡ pick b (record { refusal = 0; row = r }) (answer misfit)
+    go-end : (b : Bool) → k ≡ [] → rowAnswer (whole (guard b (got r k))) ≡ pick b (record { refusal = 0; row = r }) (rowAnswer misfit)
     go-end true h = rw h
     go-end false h = refl
 
-    line-end : k ≡ [] → answer (wholeRow l) ≡ judgedRow 0 r
+    line-end : k ≡ [] → rowAnswer (wholeRow l) ≡ judgedRow 0 r
     unfolding judgedRow
     line-end h = rw read-is (go-end (validRow r) h)
 
-    go-left : (b : Bool) {x : ℕ} {q : List ℕ} → k ≡ x ∷ q → answer (whole (guard b (got r k))) ≡ answer misfit
+    go-left : (b : Bool) {x : ℕ} {q : List ℕ} → k ≡ x ∷ q → rowAnswer (whole (guard b (got r k))) ≡ rowAnswer misfit
     go-left true h = rw h
     go-left false h = refl
 
-    line-left : {x : ℕ} {q : List ℕ} → k ≡ x ∷ q → answer (wholeRow l) ≡ judgedRow refusedRow r
+    line-left : {x : ℕ} {q : List ℕ} → k ≡ x ∷ q → rowAnswer (wholeRow l) ≡ judgedRow noRow r
     unfolding judgedRow
     line-left h = rw read-is (go-left (validRow r) h)
 
 -- the two ways out of the loop
 module _ (l : List ℕ) (at g : ℕ) (r : Row) (n : ℕ) (inv : fillFrom (groupCount - g) g r (drop at l) ≡ fillFrom groupCount 0 blankRow l) where
-  pub way-off : g < groupCount → fillGroup g r (drop at l) ≡ misfit → n ≡ refusedRow → (s : Row) → judgedRow n s ≡ answer (wholeRow l)
+  pub way-off : g < groupCount → fillGroup g r (drop at l) ≡ misfit → n ≡ noRow → (s : Row) → judgedRow n s ≡ rowAnswer (wholeRow l)
   unfolding judgedRow
   way-off h m e s = rw e (sym (line-off l (sym inv ∙ from-off g r (drop at l) h m)))
 
-  pub way-end : groupCount ≤ g → n ≡ pick (leb (length l) at) 0 refusedRow → judgedRow n r ≡ answer (wholeRow l)
+  pub way-end : groupCount ≤ g → n ≡ pick (leb (length l) at) 0 noRow → judgedRow n r ≡ rowAnswer (wholeRow l)
   way-end h e = go (leb (length l) at) refl e
     where
       all : fillFrom groupCount 0 blankRow l ≡ got r (drop at l)
       all = sym inv ∙ from-end g r (drop at l) h
 
-      go : (b : Bool) → leb (length l) at ≡ b → n ≡ pick b 0 refusedRow → judgedRow n r ≡ answer (wholeRow l)
+      go : (b : Bool) → leb (length l) at ≡ b → n ≡ pick b 0 noRow → judgedRow n r ≡ rowAnswer (wholeRow l)
       go true q z = rw z (sym (line-end l r (drop at l) all (drop-of-length-le l (leb-true (length l) at q))))
       go false q z = rw z (sym (line-left l r (drop at l) all (drop-cons l at 0 (leb-false (length l) at q))))

@@ -9,7 +9,7 @@ use Rattle.text.specs.Numbers.{readDigits}
 use Rattle.text.specs.Laws.Base.{Laws}
 use Rattle.text.specs.Laws.Numbers.{digits-laws}
 use Rattle.thirds.specs.Groups.{groupPieces, readGroup}
-use Rattle.thirds.specs.Held.{HeldThree, trio}
+use Rattle.thirds.specs.Code.Held.{HeldThree, trio}
 use Rattle.thirds.specs.Laws.Groups.{Shown}
 use Rattle.thirds.specs.Laws.Held.{three-got}
 use Rattle.thirds.specs.declared.Trio.{Trio}

@@ -14,7 +14,7 @@ use Rattle.text.specs.Laws.Put.{canonical-append, whole-put}
 use Rattle.runway.specs.Runway.{runwayPieces}
 use Rattle.thirds.specs.Groups.{codes, descriptions}
 use Rattle.rowtext.specs.Text.{groupOf, middlePieces, widthPieces, rowPieces}
-use Rattle.rowtext.specs.Writing.{Wrote}
+use Rattle.rowtext.specs.Writing.{WroteRow}
 use Rattle.row.specs.declared.Row.{Row}
 
 row-joined : (t u c m d w : List Piece) → canonical (t ++ (gap ∷ (u ++ (c ++ (m ++ (d ++ w))))))
@@ -34,12 +34,12 @@ row-bytes r = row-joined (digits 8 (r .time)) (runwayPieces (r .number) (r .side
 
 -- a text that fits is put whole, and one that does not is not put
 module _ {t b : List ℕ} where
-  pub wrote-on : {x : List ℕ} {r : ℕ} → leb (length t) (length b) ≡ true → Put 0 t b x r → Wrote t b x r
+  pub wrote-on : {x : List ℕ} {r : ℕ} → leb (length t) (length b) ≡ true → Put 0 t b x r → WroteRow t b x r
   wrote-on e p = let w = whole-put p (leb-true (length t) (length b) e) in record { filled = rw e (w .0); holds = rw e (w .1) }
 
-  pub wrote-off : leb (length t) (length b) ≡ false → Wrote t b b 0
+  pub wrote-off : leb (length t) (length b) ≡ false → WroteRow t b b 0
   wrote-off e = record { filled = rw e; holds = rw e }
 
 -- where there is no text, none is put
-pub wrote-none : (b : List ℕ) → Wrote [] b b 0
+pub wrote-none : (b : List ℕ) → WroteRow [] b b 0
 wrote-none b = let e = le-leb 0 (length b) (omega arith) in record { filled = rw e; holds = rw e }

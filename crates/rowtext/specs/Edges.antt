@@ -18,17 +18,17 @@ use Rattle.surface.specs.declared.Third.{Third}
 use Rattle.thirds.specs.Groups.{coverages, depths, measurePieces, readMeasure, readCoverage, readDescription, thirdPieces, readThird, readGroup}
 use Rattle.row.specs.Row.{threeThat, validRow, isBare, isSix, isDry, isShort}
 use Rattle.rowtext.specs.Text.{groupOf, middlePieces, widthPieces, rowPieces}
-use Rattle.rowtext.specs.Reading.{readFull, readShort, readWidth, readRow, wholeRow, answer}
-use Rattle.rowtext.specs.Writing.{rowText, Wrote}
+use Rattle.rowtext.specs.Reading.{readFull, readShort, readWidth, readRow, wholeRow, rowAnswer}
+use Rattle.rowtext.specs.Writing.{rowText, WroteRow}
 use Rattle.row.specs.declared.Row.{Row}
 use Rattle.rowtext.specs.declared.RowRead.{RowRead}
 
--- the answer to a line, and to one that goes on behind a time and a runway
+-- the rowAnswer to a line, and to one that goes on behind a time and a runway
 abbrev line : String → RowRead
-line s = answer (wholeRow (bytes s))
+line s = rowAnswer (wholeRow (bytes s))
 
 abbrev given : String → RowRead
-given s = answer (wholeRow (bytes "01120640 07 " ++ bytes s))
+given s = rowAnswer (wholeRow (bytes "01120640 07 " ++ bytes s))
 
 abbrev row : List Third → ℕ → Row
 row ts width = record { time = 1120640; number = 7; side = 0; thirds = ts; width = width }
@@ -37,7 +37,7 @@ abbrev taken : Row → RowRead
 taken r = record { refusal = 0; row = r }
 
 abbrev refused : RowRead
-refused = answer misfit
+refused = rowAnswer misfit
 
 -- a third with neither coverage nor depth, and three thirds alike
 abbrev bare : ℕ → ℕ → Third
@@ -181,9 +181,9 @@ written = record { full = refl; short = refl; short-nr = refl; not-short = refl;
 
 -- a text in a buffer that is longer than it, as long, and a byte shorter
 pub record Fitted : Type 0 where
-  longer : Wrote (bytes "AB") (bytes "xyz") (bytes "ABz") 2
-  exact : Wrote (bytes "AB") (bytes "xy") (bytes "AB") 2
-  shorter : Wrote (bytes "AB") (bytes "x") (bytes "x") 0
+  longer : WroteRow (bytes "AB") (bytes "xyz") (bytes "ABz") 2
+  exact : WroteRow (bytes "AB") (bytes "xy") (bytes "AB") 2
+  shorter : WroteRow (bytes "AB") (bytes "x") (bytes "x") 0
 
 pub fitted : Fitted
 fitted = record { longer = record { filled = refl; holds = refl }; exact = record { filled = refl; holds = refl }; shorter = record { filled = refl; holds = refl } }

@@ -2,7 +2,7 @@
 pub mod Text
 pub mod Reading
 pub mod Writing
-pub mod Filling
+pub mod Code
 pub mod Laws
 pub mod Theorems
 pub mod Edges

@@ -14,8 +14,8 @@ use Rattle.surface.specs.Descriptions.{isContaminant, isDeep, dry}
 use Rattle.surface.specs.Third.{blankThird, isCoverage, validCoverage, leastDepth, isReported, validDepth, validThird}
 use Rattle.row.specs.Row.{blankRow, threeThat, validRow, isBare, isSix, isDry, isShort}
 use Rattle.thirds.specs.Groups.{measurePieces, readMeasure, readCoverage, readDescription, readThird, readGroup}
-use Rattle.rowtext.specs.Reading.{readFull, readShort, readWidth, answer}
-use Rattle.rowtext.specs.Filling.{withTime, withCodes, groupCount, fillGroup, fillFrom, judgedRow}
+use Rattle.rowtext.specs.Reading.{readFull, readShort, readWidth, rowAnswer}
+use Rattle.rowtext.specs.Code.Filling.{withTime, withCodes, groupCount, fillGroup, fillFrom, judgedRow}
 use Rattle.row.specs.declared.Row.{Row}
 use Rattle.row.specs.Pins.{row, each, bare}
 
@@ -39,8 +39,8 @@ pub record Filling : Type 0 where
   rest : step 3 sixes " DRY/DRY/DRY 40" ≡ got (row 0 0 0 (each (bare 6 dry)) 0) (bytes " 40")
   width : step 4 blankRow " 40 1" ≡ got (row 0 0 0 (each blankThird) 40) (bytes " 1")
   all-groups : fillFrom groupCount 0 blankRow (bytes "01120640 07L 6/6/6 DRY/DRY/DRY 40") ≡ got whole []
-  judged-rows : map (λ n. judgedRow n whole) (0 ∷ 1 ∷ 5 ∷ []) ≡ record { refusal = 0; row = whole } ∷ answer misfit ∷ answer misfit ∷ []
-  judged-invalid : judgedRow 0 (row 1120640 19 1 (each (bare 6 dry)) 40) ≡ answer misfit
+  judged-rows : map (λ n. judgedRow n whole) (0 ∷ 1 ∷ 5 ∷ []) ≡ record { refusal = 0; row = whole } ∷ rowAnswer misfit ∷ rowAnswer misfit ∷ []
+  judged-invalid : judgedRow 0 (row 1120640 19 1 (each (bare 6 dry)) 40) ≡ rowAnswer misfit
 
 pub filling : Filling
 unfolding _and_ skip readText readName readDigits measurePieces readMeasure readCoverage readDescription readThird readGroup readFull readShort readWidth isShortMonth daysOf realDay realClock realTime validRunway isContaminant isDeep isCoverage validCoverage leastDepth isReported validDepth validThird threeThat validRow isBare isSix isDry isShort fillGroup fillFrom judgedRow

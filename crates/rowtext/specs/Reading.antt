@@ -12,6 +12,7 @@ use Rattle.thirds.specs.Groups.{Three, codes, coverages, depths, descriptions, 
 use Rattle.row.specs.Row.{blankRow, isShort, validRow}
 use Rattle.row.specs.declared.Row.{Row}
 use Rattle.rowtext.specs.declared.RowRead.{RowRead}
+use Rattle.text.specs.Refusals.{noRow}
 
 -- coverages, depths and descriptions
 abbrev pub Rest : Type 0
@@ -68,11 +69,7 @@ readRow = readIf validRow (readAs makeRow readGroups)
 abbrev pub wholeRow : List ℕ → Got Row
 wholeRow line = whole (readRow line)
 
--- "5: a row's own rules"
-abbrev pub refusedRow : ℕ
-refusedRow = 5
-
--- the answer to a line: the row, or the refusal and the blank row
-abbrev pub answer : Got Row → RowRead
-answer misfit = record { refusal = refusedRow; row = blankRow }
-answer (got r k) = record { refusal = 0; row = r }
+-- the rowAnswer to a line: the row, or the refusal and the blank row
+abbrev pub rowAnswer : Got Row → RowRead
+rowAnswer misfit = record { refusal = noRow; row = blankRow }
+rowAnswer (got r k) = record { refusal = 0; row = r }

@@ -12,8 +12,8 @@ use Rattle.text.specs.Laws.Lines.{whole-sound, whole-complete}
 use Rattle.text.specs.Laws.Typing.{canonical-typed}
 use Rattle.row.specs.Row.{validRow}
 use Rattle.rowtext.specs.Text.{rowPieces}
-use Rattle.rowtext.specs.Reading.{wholeRow, answer}
-use Rattle.rowtext.specs.Writing.{rowText, Wrote}
+use Rattle.rowtext.specs.Reading.{wholeRow, rowAnswer}
+use Rattle.rowtext.specs.Writing.{rowText, WroteRow}
 use Rattle.rowtext.specs.Laws.Row.{row-laws}
 use Rattle.rowtext.specs.Laws.Sizes.{text-size}
 use Rattle.row.specs.declared.Row.{Row}
@@ -28,7 +28,7 @@ abbrev taken : Row → RowRead
 taken r = record { refusal = 0; row = r }
 
 abbrev refused : RowRead
-refused = answer misfit
+refused = rowAnswer misfit
 
 -- a line that is read tells the row that is read
 pub row-sound : (line : List ℕ) {r : Row} {k : List ℕ} → wholeRow line ≡ got r k → Tells line r
@@ -46,27 +46,27 @@ row-one line r s t u = let e = sym (row-complete line r t) ∙ row-complete line
 
 -- a line is read as exactly the row that it tells, and is refused exactly if it tells none
 pub record Exactly (line : List ℕ) : Type 0 where
-  pub read : {r : Row} → answer (wholeRow line) ≡ taken r → Tells line r
-  pub told : {r : Row} → Tells line r → answer (wholeRow line) ≡ taken r
-  pub none : answer (wholeRow line) ≡ refused → (r : Row) → Tells line r → ⊥
-  pub else : ((r : Row) → Tells line r → ⊥) → answer (wholeRow line) ≡ refused
+  pub read : {r : Row} → rowAnswer (wholeRow line) ≡ taken r → Tells line r
+  pub told : {r : Row} → Tells line r → rowAnswer (wholeRow line) ≡ taken r
+  pub none : rowAnswer (wholeRow line) ≡ refused → (r : Row) → Tells line r → ⊥
+  pub else : ((r : Row) → Tells line r → ⊥) → rowAnswer (wholeRow line) ≡ refused
 
 pub exactly : (line : List ℕ) → Exactly line
 exactly line = record {
   read = λ {r} e. was-read (wholeRow line) refl e;
-  told = λ {r} t. ap answer (row-complete line r t);
-  none = λ e r t. differ (sym e ∙ ap answer (row-complete line r t));
+  told = λ {r} t. ap rowAnswer (row-complete line r t);
+  none = λ e r t. differ (sym e ∙ ap rowAnswer (row-complete line r t));
   else = λ untold. was-none (wholeRow line) refl untold;
 }
   where
     differ : {r : Row} → refused ≡ taken r → ⊥
     differ e = let z : _≡_ {A = ℕ} 5 0 = ap (λ (a : RowRead). a .refusal) e in omega arith
 
-    was-read : (g : Got Row) → wholeRow line ≡ g → {r : Row} → answer g ≡ taken r → Tells line r
+    was-read : (g : Got Row) → wholeRow line ≡ g → {r : Row} → rowAnswer g ≡ taken r → Tells line r
     was-read misfit q e = absurd (differ e)
     was-read (got a k) q e = rw (ap (λ (a : RowRead). a .row) (sym e)) (row-sound line q)
 
-    was-none : (g : Got Row) → wholeRow line ≡ g → ((r : Row) → Tells line r → ⊥) → answer g ≡ refused
+    was-none : (g : Got Row) → wholeRow line ≡ g → ((r : Row) → Tells line r → ⊥) → rowAnswer g ≡ refused
     was-none misfit q untold = refl
     was-none (got a k) q untold = absurd (untold a (row-sound line q))
 
@@ -79,6 +79,6 @@ row-back r h = rw h (row-complete (canonical (rowPieces r)) r (record { valid = 
 pub row-short : (r : Row) → length (rowText r) ≤ 147
 row-short = text-size
 
--- the promise of writing leaves no choice: the answer and every byte; that of putting is `put-one` of text, and the others are equations
-pub wrote-one : {t before x y : List ℕ} {r s : ℕ} → Wrote t before x r → Wrote t before y s → (r ≡ s) × (x ≡ y)
+-- the promise of writing leaves no choice: the rowAnswer and every byte; that of putting is `put-one` of text, and the others are equations
+pub wrote-one : {t before x y : List ℕ} {r s : ℕ} → WroteRow t before x r → WroteRow t before y s → (r ≡ s) × (x ≡ y)
 wrote-one p q = (p .filled ∙ sym (q .filled), p .holds ∙ sym (q .holds))

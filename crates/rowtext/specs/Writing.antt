@@ -15,6 +15,6 @@ unfoldable pub rowText : Row → List ℕ
 rowText r = pick (validRow r) (canonical (rowPieces r)) []
 
 -- a text that fits stands at the front, "later bytes stay", and r is its length; one that does not changes nothing
-pub record Wrote (t before after : List ℕ) (r : ℕ) : Type 0 where
+pub record WroteRow (t before after : List ℕ) (r : ℕ) : Type 0 where
   pub filled : r ≡ pick (leb (length t) (length before)) (length t) 0
   pub holds : after ≡ pick (leb (length t) (length before)) (t ++ drop (length t) before) before

@@ -8,17 +8,18 @@ ghost use lib.ListN.{length};
 ghost use Rattle.text.specs.Choice.{pick};
 ghost use Rattle.text.specs.Piece.{canonical};
 ghost use Rattle.text.specs.Read.{readAs, readGap};
-ghost use Rattle.text.specs.Held.{Held};
+ghost use Rattle.text.specs.Code.Held.{Held};
 ghost use Rattle.text.specs.Put.{Put};
 ghost use Rattle.runway.specs.Runway.{readRunway};
-ghost use Rattle.runway.specs.Held.{HeldRunway};
+ghost use Rattle.runway.specs.Code.Held.{HeldRunway};
 ghost use Rattle.thirds.specs.Groups.{codes, coverages, depths, descriptions, readGroup};
-ghost use Rattle.thirds.specs.Held.{trio};
+ghost use Rattle.thirds.specs.Code.Held.{trio};
 ghost use Rattle.thirds.specs.Laws.Groups.{Shown};
 ghost use Rattle.rowtext.specs.Text.{field, numbersOf, groupOf, middlePieces, widthPieces, rowPieces};
-ghost use Rattle.rowtext.specs.Reading.{readFull, readShort, readRest, readWidth, wholeRow, refusedRow, answer};
-ghost use Rattle.rowtext.specs.Writing.{rowText, Wrote};
-ghost use Rattle.rowtext.specs.Filling.{withCodes, withRest, Filled, judgedRow};
+ghost use Rattle.rowtext.specs.Reading.{readFull, readShort, readRest, readWidth, wholeRow, rowAnswer};
+ghost use Rattle.text.specs.Refusals.{noRow};
+ghost use Rattle.rowtext.specs.Writing.{rowText, WroteRow};
+ghost use Rattle.rowtext.specs.Code.Filling.{withCodes, withRest, Filled, judgedRow};
 use fill::put;
 use fill::put_digits;
 use row::Row;
@@ -34,6 +35,7 @@ use scan::word;
 use surface::Third;
 use surface::description;
 use text::Found;
+use text::refusal;
 use thirds::CODES;
 use thirds::COVERAGES;
 use thirds::DEPTHS;
@@ -221,13 +223,11 @@ fn width(s: &[u8]) -> Found
 
 const GROUPS: u8 = 5;
 
-pub const REFUSED_ROW: u8 = 5;
-
 // 0 at the line's end, else the refusal of what is left.
 fn ending(line: &[u8], at: usize) -> u8
-    ensures { λ r. ⌜ r ≡ pick (leb (length (now (line .entry))) at) 0 refusedRow ⌝ }
+    ensures { λ r. ⌜ r ≡ pick (leb (length (now (line .entry))) at) 0 noRow ⌝ }
 {
-    if line.len() <= at { 0 } else { REFUSED_ROW }
+    if line.len() <= at { 0 } else { refusal::NO_ROW }
 }
 
 pub struct RowRead {
@@ -247,7 +247,7 @@ fn judged(refusal: u8, row: Row) -> RowRead
         }
     }
     RowRead {
-        refusal: REFUSED_ROW,
+        refusal: refusal::NO_ROW,
         row: blank,
     }
 }
@@ -255,7 +255,7 @@ fn judged(refusal: u8, row: Row) -> RowRead
 // The row that a whole line is: group by group, each in the part of the line that is left, and the first misfit refuses it. The groups stand in
 // their order: time, runway, codes, coverages to descriptions, width.
 pub fn read_row(line: &[u8]) -> RowRead
-    ensures { λ r. ⌜ r ≡ answer (wholeRow (now (line .entry))) ⌝ }
+    ensures { λ r. ⌜ r ≡ rowAnswer (wholeRow (now (line .entry))) ⌝ }
 {
     let mut row = blank_row();
     let mut at: usize = 0;
@@ -301,7 +301,7 @@ pub fn read_row(line: &[u8]) -> RowRead
             }
         }
         if !fits {
-            break 'groups REFUSED_ROW;
+            break 'groups refusal::NO_ROW;
         }
         at += next;
         group += 1;
@@ -384,7 +384,7 @@ fn row_size(row: Row) -> usize
 }
 
 // The row's text fits into so many bytes: the longest is known, and only a shorter rest is measured against the text.
-fn fits(room: usize, row: Row) -> bool
+fn has_room(room: usize, row: Row) -> bool
     ensures { λ r. ⌜ r ≡ leb (length (canonical (rowPieces row))) room ⌝ }
 {
     if LONGEST_ROW <= room {
@@ -396,12 +396,12 @@ fn fits(room: usize, row: Row) -> bool
 // Writes the row into the rest of a buffer and answers how many bytes it filled.
 // A row that is not valid or does not fit leaves every byte as it was: 0.
 pub fn write_row(rest: &mut [u8], row: Row) -> usize
-    ensures { λ r. ⌜ Wrote (rowText row) (now (rest .entry)) (now (rest .exit)) r ⌝ }
+    ensures { λ r. ⌜ WroteRow (rowText row) (now (rest .entry)) (now (rest .exit)) r ⌝ }
 {
     if !valid_row(row) {
         return 0;
     }
-    if fits(rest.len(), row) {
+    if has_room(rest.len(), row) {
         return put_any_row(rest, row);
     }
     0

@@ -1,6 +1,6 @@
 -- Definitions first; what is proved of them is under Laws; the values are pinned in Tables.
 pub mod Time
 pub mod Runway
-pub mod Held
+pub mod Code
 pub mod Laws
 pub mod Tables

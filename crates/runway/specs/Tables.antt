@@ -7,7 +7,7 @@ use Rattle.text.specs.Choice.{_and_}
 use Rattle.text.specs.Piece.{bytes}
 use Rattle.runway.specs.Time.{isShortMonth, daysOf, realDay, realClock, realTime, later}
 use Rattle.runway.specs.Runway.{validRunway, sideName, sideOf, isSide}
-use Rattle.runway.specs.Held.{noRunway}
+use Rattle.runway.specs.Code.Held.{noRunway}
 
 abbrev lastDays : List ℕ
 lastDays = 1310000 ∷ 2290000 ∷ 3310000 ∷ 4300000 ∷ 5310000 ∷ 6300000 ∷ 7310000 ∷ 8310000 ∷ 9300000 ∷ 10310000 ∷ 11300000 ∷ 12310000 ∷ []

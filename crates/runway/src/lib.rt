@@ -6,7 +6,7 @@ ghost use Rattle.text.specs.Piece.{canonical, spell};
 ghost use Rattle.text.specs.Put.{Put};
 ghost use Rattle.runway.specs.Time.{isShortMonth, daysOf, realDay, realClock, realTime, later};
 ghost use Rattle.runway.specs.Runway.{sideName, validRunway, runwayPieces, readSide, readRunway};
-ghost use Rattle.runway.specs.Held.{HeldSide, HeldRunway};
+ghost use Rattle.runway.specs.Code.Held.{HeldSide, HeldRunway};
 use fill::put;
 use fill::put_digits;
 use scan::digits;

@@ -10,8 +10,8 @@ use lib.Seq.{drop-cons, drop-drop}
 use lib.Count.{trailingZeros, under}
 use borrow.Author.Tests.{eqb-true, eqb-false, ltb-true, lt-ltb}
 use Rattle.text.specs.Choice.{pick, _and_, all}
-use Rattle.text.specs.Names.{run, past}
-use Rattle.text.specs.Held.{isSpace, Reached, lowFirst, Eight}
+use Rattle.text.specs.Names.{run, past, isSpace}
+use Rattle.text.specs.Code.Held.{Reached, lowFirst, Eight}
 use Rattle.text.specs.Laws.Base.{and-1, and-2}
 use Rattle.text.specs.Laws.Runs.{run-all}
 use Rattle.text.specs.Laws.Passed.{block-in, past-block}

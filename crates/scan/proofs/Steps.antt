@@ -11,9 +11,9 @@ use lib.ListN.{length, drop, getD, drop-of-length-le}
 use lib.Seq.{drop-cons}
 use borrow.Author.Tests.{eq-eqb, ne-eqb, eqb-true, eqb-false, not-true, le-leb, lt-leb}
 use Rattle.text.specs.Read.{Got, misfit, got, guard, andThen, skip, after, readText}
-use Rattle.text.specs.Names.{isLetter, isMark, isPlainByte, readCount, past}
+use Rattle.text.specs.Names.{isLetter, isMark, isPlainByte, readCount, past, isSpace}
 use Rattle.text.specs.Choice.{pick, _and_, all}
-use Rattle.text.specs.Held.{fits, isSpace}
+use Rattle.text.specs.Code.Held.{isGot}
 use Rattle.text.specs.Numbers.{isDigit, readDigit, readDigits}
 use Rattle.text.specs.Laws.Base.{carry, and-1, and-2, and-none}
 use Rattle.text.specs.Laws.Numbers.{digits-laws}
@@ -157,7 +157,7 @@ digits-fit k m h e =
     let q = digits-low k m e in
     omega arith
 
-pub count-none : (p : ℕ → Bool) (m : List ℕ) → fits (readCount p 0 m) ≡ true
+pub count-none : (p : ℕ → Bool) (m : List ℕ) → isGot (readCount p 0 m) ≡ true
 unfolding readCount
 count-none p m = refl
 

@@ -6,10 +6,10 @@ ghost use lib.Dec.{leb};
 ghost use lib.ListN.{length, take, drop};
 ghost use Rattle.text.specs.Choice.{pick, all, sameBytes};
 ghost use Rattle.text.specs.Arrays.{isZero};
-ghost use Rattle.text.specs.Read.{guard, skip};
+ghost use Rattle.text.specs.Read.{guard, skip, readWord};
 ghost use Rattle.text.specs.Numbers.{readDigits};
-ghost use Rattle.text.specs.Names.{isLetter, isName, isPlainByte, inClass, run, past, readCount};
-ghost use Rattle.text.specs.Held.{Held, Reached, Eight, isSpace, startsWith, readWord, fits};
+ghost use Rattle.text.specs.Names.{isLetter, isName, isPlainByte, inClass, run, past, readCount, isSpace};
+ghost use Rattle.text.specs.Code.Held.{Held, Reached, Eight, startsWith, isGot};
 use text::BLOCK;
 use text::Found;
 use text::NONE;
@@ -261,7 +261,7 @@ pub fn run(s: &[u8], i: usize, class: u8) -> usize
 
 // Whether `n` bytes of a class stand at `i`.
 pub fn counted(s: &[u8], i: usize, class: u8, n: usize) -> bool
-    ensures { λ r. ⌜ r ≡ fits (readCount (inClass class) n (drop i (now (s .entry)))) ⌝ }
+    ensures { λ r. ⌜ r ≡ isGot (readCount (inClass class) n (drop i (now (s .entry)))) ⌝ }
 {
     let mut j = place(s, i);
     let mut left = n;

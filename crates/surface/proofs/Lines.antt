@@ -2,21 +2,21 @@
 use mathlib.Core.Path.{_≡_}
 use mathlib.Core.List.{List, [], _∷_}
 use mathlib.Core.Bool.{Bool, true, false}
-use Rattle.surface.specs.declared.Line.{Line}
-use Rattle.surface.specs.Table1.{firstLine}
+use Rattle.surface.specs.declared.Entry.{Entry}
+use Rattle.surface.specs.Table1.{firstFitting}
 
-module _ {A : Type 0} (test : Line → Bool) (gives : Line → A) (else : A) where
+module _ {A : Type 0} (test : Entry → Bool) (gives : Entry → A) (else : A) where
   -- the line passes the test
-  pub here : {ls rest : List Line} {l : Line} → ls ≡ l ∷ rest → test l ≡ true → gives l ≡ firstLine test gives else ls
-  unfolding firstLine
+  pub here : {ls rest : List Entry} {l : Entry} → ls ≡ l ∷ rest → test l ≡ true → gives l ≡ firstFitting test gives else ls
+  unfolding firstFitting
   here e h = rw (e, h)
 
   -- it does not, and the loop goes on with the next
-  pub further : {ls rest : List Line} {l : Line} → ls ≡ l ∷ rest → test l ≡ false → firstLine test gives else rest ≡ firstLine test gives else ls
-  unfolding firstLine
+  pub further : {ls rest : List Entry} {l : Entry} → ls ≡ l ∷ rest → test l ≡ false → firstFitting test gives else rest ≡ firstFitting test gives else ls
+  unfolding firstFitting
   further e h = rw (e, h)
 
   -- no line is left
-  pub nowhere : {ls : List Line} → ls ≡ [] → else ≡ firstLine test gives else ls
-  unfolding firstLine
+  pub nowhere : {ls : List Entry} → ls ≡ [] → else ≡ firstFitting test gives else ls
+  unfolding firstFitting
   nowhere e = rw e

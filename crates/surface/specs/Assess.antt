@@ -4,13 +4,15 @@ use mathlib.Core.Bool.{Bool, true, false, not}
 use lib.Dec.{eqb, leb, ltb}
 use lib.IntN.{ℤ, pos}
 use lib.Signed.{leZ}
-use Rattle.text.specs.Choice.{pick, _and_}
+use Rattle.text.specs.Choice.{firstFailing, _else_, pick, _and_}
 use Rattle.surface.specs.declared.Third.{Third}
 use Rattle.surface.specs.declared.Observation.{Observation}
 use Rattle.surface.specs.declared.Assessment.{Assessment}
 use Rattle.surface.specs.Descriptions.{notReported, compactedSnow, standingWater, wet, dry, isDeep}
 use Rattle.surface.specs.Third.{third, blankThird, isReported, greatestDepth}
 use Rattle.surface.specs.Table1.{minus, isShallow, codeFor}
+use Rattle.text.specs.Refusals.{outOfRange, contradiction}
+use mathlib.Core.List.{[], _∷_}
 
 -- "kind (one of the fifteen)"
 unfoldable pub isKind : ℕ → Bool
@@ -76,14 +78,6 @@ covered kind o = third (codeFor kind o) (coverageFor (o .cover)) (reportedDepth 
 unfoldable pub assessed : Observation → Third
 assessed o = pick (ltb (o .cover) leastCover) (uncovered (o .kind)) (covered (reportedKind o) o)
 
--- refusal numbers: "15, 16: observation out of range; contradictory"
-abbrev pub outOfRange : ℕ
-outOfRange = 15
-
--- and the second of them
-abbrev pub contradiction : ℕ
-contradiction = 16
-
 -- an observation that is not refused
 abbrev pub taken : Third → Assessment
 taken t = record { refusal = 0; third = t }
@@ -94,4 +88,8 @@ refused number = record { refusal = number; third = blankThird }
 
 -- "Assessing: 15, 16": out of range before contradictory, and both before all else
 unfoldable pub assessing : Observation → Assessment
-assessing o = pick (inRange o) (pick (contradictory o) (refused contradiction) (taken (assessed o))) (refused outOfRange)
+assessing o =
+    firstFailing (
+    inRange o else refused outOfRange
+    ∷ not (contradictory o) else refused contradiction
+    ∷ []) (taken (assessed o))

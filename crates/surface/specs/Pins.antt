@@ -113,7 +113,7 @@ signs = refl
 
 -- a kind that has no line
 unlisted : (o : Observation) → codeFor 0 o ≡ 0
-unfolding Choice._and_ table1 Table1.fits Table1.firstLine
+unfolding Choice._and_ table1 Table1.isFor Table1.firstFitting
 unlisted o = refl
 
 -- the codes that a description agrees with at depth NR, 03 and 04
@@ -143,7 +143,7 @@ agreement :
     ∷ (dry, (6 ∷ [], (6 ∷ [], 6 ∷ [])))
     ∷ (16, ([], ([], [])))
     ∷ []
-unfolding Choice._and_ Table1.table1 Table1.isShallow Table1.canHold Table1.allows Table1.firstLine Table1.agrees
+unfolding Choice._and_ Table1.table1 Table1.isShallow Table1.canHold Table1.allows Table1.firstFitting Table1.agrees
 agreement = refl
 
 -- what is reported of an observation: kind, cover, depth, temperature, slippery
@@ -178,7 +178,7 @@ kinds :
     ∷ (dry, (refused 16, refused 16))
     ∷ (16, (refused 15, refused 15))
     ∷ []
-unfolding Choice._and_ Descriptions.isDeep Third.leastDepth Third.isReported Table1.table1 Table1.isShallow Table1.isCold Table1.holds Table1.fits Table1.firstLine Assess.isKind Assess.isTemperature Assess.inRange Assess.coveredDry Assess.deepWet Assess.deepOther Assess.slipperyOther Assess.contradictory Assess.coverageFor Assess.uncovered Assess.isThinWater Assess.reportedKind Assess.reportedDepth Assess.covered Assess.assessed Assess.assessing
+unfolding Choice._and_ Descriptions.isDeep Third.leastDepth Third.isReported Table1.table1 Table1.isShallow Table1.isCold Table1.holds Table1.isFor Table1.firstFitting Assess.isKind Assess.isTemperature Assess.inRange Assess.coveredDry Assess.deepWet Assess.deepOther Assess.slipperyOther Assess.contradictory Assess.coverageFor Assess.uncovered Assess.isThinWater Assess.reportedKind Assess.reportedDepth Assess.covered Assess.assessed Assess.assessing
 kinds = refl
 
 pub record Assessing : Type 0 where
@@ -205,7 +205,7 @@ pub record Assessing : Type 0 where
   wet-snow : map (λ d. report wetSnow 100 d (pos 0) false .third) (2 ∷ 3 ∷ []) ≡ third 5 100 0 wetSnow ∷ third 5 100 3 wetSnow ∷ []
 
 pub assessments : Assessing
-unfolding Choice._and_ Descriptions.isDeep Third.leastDepth Third.isReported Table1.table1 Table1.isShallow Table1.isCold Table1.holds Table1.fits Table1.firstLine Assess.isKind Assess.isTemperature Assess.inRange Assess.coveredDry Assess.deepWet Assess.deepOther Assess.slipperyOther Assess.contradictory Assess.coverageFor Assess.uncovered Assess.isThinWater Assess.reportedKind Assess.reportedDepth Assess.covered Assess.assessed Assess.assessing
+unfolding Choice._and_ Descriptions.isDeep Third.leastDepth Third.isReported Table1.table1 Table1.isShallow Table1.isCold Table1.holds Table1.isFor Table1.firstFitting Assess.isKind Assess.isTemperature Assess.inRange Assess.coveredDry Assess.deepWet Assess.deepOther Assess.slipperyOther Assess.contradictory Assess.coverageFor Assess.uncovered Assess.isThinWater Assess.reportedKind Assess.reportedDepth Assess.covered Assess.assessed Assess.assessing
 assessments =
     record {
       covers = refl;

@@ -8,50 +8,50 @@ use lib.Signed.{leZ}
 use Rattle.text.specs.Choice.{pick, _and_}
 use Rattle.surface.specs.declared.Third.{Third}
 use Rattle.surface.specs.declared.Observation.{Observation}
-use Rattle.surface.specs.declared.Line.{Line}
+use Rattle.surface.specs.declared.Entry.{Entry}
 use Rattle.surface.specs.declared.Condition.{Condition}
 use Rattle.surface.specs.declared.Condition.the-variants.{Always, NotSlippery, Slippery, Shallow, Deeper, Cold, Milder}
 use Rattle.surface.specs.Descriptions.{notReported, compactedSnow, drySnow, drySnowOnCompactedSnow, drySnowOnIce, frost, ice, slush, standingWater, waterOnCompactedSnow, wet, wetIce, wetSnow, wetSnowOnCompactedSnow, wetSnowOnIce, dry}
 
--- a line: the code, the kind of surface, and the condition under which the kind has the code
-abbrev pub line : ℕ → ℕ → Condition → Line
-line c k q = record { 0 = c; 1 = k; 2 = q }
+-- a entry: the code, the kind of surface, and the condition under which the kind has the code
+abbrev pub entry : ℕ → ℕ → Condition → Entry
+entry c k q = record { 0 = c; 1 = k; 2 = q }
 
--- the code of a line
-abbrev pub code : Line → ℕ
+-- the code of a entry
+abbrev pub code : Entry → ℕ
 code l = l .0
 
 -- its kind
-abbrev pub kind : Line → ℕ
+abbrev pub kind : Entry → ℕ
 kind l = l .1
 
 -- and the condition under which it holds
-abbrev pub condition : Line → Condition
+abbrev pub condition : Entry → Condition
 condition l = l .2
 
 -- Table 1, in its order
-unfoldable pub table1 : List Line
+unfoldable pub table1 : List Entry
 table1 =
-    line 6 dry Always  -- 干
-    ∷ line 5 frost Always  -- 霜
-    ∷ line 5 wet NotSlippery  -- 湿
-    ∷ line 5 slush Shallow  -- 雪浆，不超过 3 毫米
-    ∷ line 5 drySnow Shallow  -- 干雪，不超过 3 毫米
-    ∷ line 5 wetSnow Shallow  -- 湿雪，不超过 3 毫米
-    ∷ line 4 compactedSnow Cold  -- 压实的雪，-15 度及以下
-    ∷ line 3 wet Slippery  -- 湿滑
-    ∷ line 3 drySnowOnCompactedSnow Always  -- 压实的雪面上有干雪
-    ∷ line 3 wetSnowOnCompactedSnow Always  -- 压实的雪面上有湿雪
-    ∷ line 3 drySnow Deeper  -- 干雪，超过 3 毫米
-    ∷ line 3 wetSnow Deeper  -- 湿雪，超过 3 毫米
-    ∷ line 3 compactedSnow Milder  -- 压实的雪，高于 -15 度
-    ∷ line 2 standingWater Deeper  -- 积水，超过 3 毫米
-    ∷ line 2 slush Deeper  -- 雪浆，超过 3 毫米
-    ∷ line 1 ice Always  -- 冰
-    ∷ line 0 wetIce Always  -- 湿冰
-    ∷ line 0 waterOnCompactedSnow Always  -- 压实的雪面上有水
-    ∷ line 0 drySnowOnIce Always  -- 冰面上有干雪
-    ∷ line 0 wetSnowOnIce Always  -- 冰面上有湿雪
+    entry 6 dry Always  -- 干
+    ∷ entry 5 frost Always  -- 霜
+    ∷ entry 5 wet NotSlippery  -- 湿
+    ∷ entry 5 slush Shallow  -- 雪浆，不超过 3 毫米
+    ∷ entry 5 drySnow Shallow  -- 干雪，不超过 3 毫米
+    ∷ entry 5 wetSnow Shallow  -- 湿雪，不超过 3 毫米
+    ∷ entry 4 compactedSnow Cold  -- 压实的雪，-15 度及以下
+    ∷ entry 3 wet Slippery  -- 湿滑
+    ∷ entry 3 drySnowOnCompactedSnow Always  -- 压实的雪面上有干雪
+    ∷ entry 3 wetSnowOnCompactedSnow Always  -- 压实的雪面上有湿雪
+    ∷ entry 3 drySnow Deeper  -- 干雪，超过 3 毫米
+    ∷ entry 3 wetSnow Deeper  -- 湿雪，超过 3 毫米
+    ∷ entry 3 compactedSnow Milder  -- 压实的雪，高于 -15 度
+    ∷ entry 2 standingWater Deeper  -- 积水，超过 3 毫米
+    ∷ entry 2 slush Deeper  -- 雪浆，超过 3 毫米
+    ∷ entry 1 ice Always  -- 冰
+    ∷ entry 0 wetIce Always  -- 湿冰
+    ∷ entry 0 waterOnCompactedSnow Always  -- 压实的雪面上有水
+    ∷ entry 0 drySnowOnIce Always  -- 冰面上有干雪
+    ∷ entry 0 wetSnowOnIce Always  -- 冰面上有湿雪
     ∷ []
 
 -- "to 3 mm"; NR is 0, so that "an NR depth counts as shallow"
@@ -77,18 +77,18 @@ holds Deeper o = not (isShallow (o .depth))
 holds Cold o = isCold (o .temperature)
 holds Milder o = not (isCold (o .temperature))
 
--- the line is the one for a surface of this kind, so observed
-unfoldable pub fits : Line → ℕ → Observation → Bool
-fits l k o = eqb (kind l) k and holds (condition l) o
+-- the entry is the one for a surface of this kind, so observed
+unfoldable pub isFor : Entry → ℕ → Observation → Bool
+isFor l k o = eqb (kind l) k and holds (condition l) o
 
--- what the first line that passes a test gives, or else the last value
-unfoldable pub firstLine : {A : Type 0} → (Line → Bool) → (Line → A) → A → List Line → A
-firstLine test gives else [] = else
-firstLine test gives else (l ∷ ls) = pick (test l) (gives l) (firstLine test gives else ls)
+-- what the first entry that passes a test gives, or else the last value
+unfoldable pub firstFitting : {A : Type 0} → (Entry → Bool) → (Entry → A) → A → List Entry → A
+firstFitting test gives else [] = else
+firstFitting test gives else (l ∷ ls) = pick (test l) (gives l) (firstFitting test gives else ls)
 
 -- the code that Table 1 gives
 abbrev pub codeFor : ℕ → Observation → ℕ
-codeFor k o = firstLine (λ l. fits l k o) code 0 table1
+codeFor k o = firstFitting (λ l. isFor l k o) code 0 table1
 
 -- the condition can hold of a surface whose reported depth is known, and nothing else
 unfoldable pub canHold : Condition → ℕ → Bool
@@ -100,13 +100,13 @@ canHold Deeper depth = not (isShallow depth)
 canHold Cold depth = true
 canHold Milder depth = true
 
--- the line allows a third its code
-unfoldable pub allows : Line → Third → Bool
+-- the entry allows a third its code
+unfoldable pub allows : Entry → Third → Bool
 allows l t = eqb (kind l) (t .description) and eqb (code l) (t .code) and canHold (condition l) (t .depth)
 
--- some line of Table 1 allows it
+-- some entry of Table 1 allows it
 abbrev pub isAllowed : Third → Bool
-isAllowed t = firstLine (λ l. allows l t) (λ _. true) false table1
+isAllowed t = firstFitting (λ l. allows l t) (λ _. true) false table1
 
 -- the agreement check of a third: "NR allows every code", else Table 1 has to allow it
 unfoldable pub agrees : Third → Bool

@@ -6,7 +6,7 @@ ghost use mathlib.Core.List.{_∷_};
 ghost use lib.ListN.{length, drop};
 ghost use Rattle.surface.specs.Descriptions.{isContaminant, isDeep};
 ghost use Rattle.surface.specs.Third.{isBlankThird, isCoverage, validCoverage, leastDepth, isReported, validDepth, validThird};
-ghost use Rattle.surface.specs.Table1.{table1, isShallow, isCold, holds, fits, codeFor, canHold, allows, isAllowed, agrees};
+ghost use Rattle.surface.specs.Table1.{table1, isShallow, isCold, holds, isFor, codeFor, canHold, allows, isAllowed, agrees};
 ghost use Rattle.surface.specs.Assess.{isKind, isTemperature, inRange, coveredDry, deepWet, deepOther, slipperyOther, contradictory, coverageFor, uncovered, isThinWater, reportedKind, reportedDepth, covered, assessed, assessing};
 use description::COMPACTED_SNOW;
 use description::DRY;
@@ -24,6 +24,7 @@ use description::WET_ICE;
 use description::WET_SNOW;
 use description::WET_SNOW_ON_COMPACTED_SNOW;
 use description::WET_SNOW_ON_ICE;
+use text::refusal;
 
 pub mod description;
 
@@ -185,36 +186,36 @@ pub enum Condition {
 }
 
 // The code, the kind of surface, and the condition under which the kind has the code.
-pub struct Line(pub u8, pub u8, pub Condition);
+pub struct Entry(pub u8, pub u8, pub Condition);
 
 const LINES: usize = 20;
 
 // One line of the source for each line of the table, in the table's order.
-const TABLE_1: [Line; LINES] = [
-    Line(6, DRY, Condition::Always),
-    Line(5, FROST, Condition::Always),
-    Line(5, WET, Condition::NotSlippery),
-    Line(5, SLUSH, Condition::Shallow),
-    Line(5, DRY_SNOW, Condition::Shallow),
-    Line(5, WET_SNOW, Condition::Shallow),
-    Line(4, COMPACTED_SNOW, Condition::Cold),
-    Line(3, WET, Condition::Slippery),
-    Line(3, DRY_SNOW_ON_COMPACTED_SNOW, Condition::Always),
-    Line(3, WET_SNOW_ON_COMPACTED_SNOW, Condition::Always),
-    Line(3, DRY_SNOW, Condition::Deeper),
-    Line(3, WET_SNOW, Condition::Deeper),
-    Line(3, COMPACTED_SNOW, Condition::Milder),
-    Line(2, STANDING_WATER, Condition::Deeper),
-    Line(2, SLUSH, Condition::Deeper),
-    Line(1, ICE, Condition::Always),
-    Line(0, WET_ICE, Condition::Always),
-    Line(0, WATER_ON_COMPACTED_SNOW, Condition::Always),
-    Line(0, DRY_SNOW_ON_ICE, Condition::Always),
-    Line(0, WET_SNOW_ON_ICE, Condition::Always),
+const TABLE_1: [Entry; LINES] = [
+    Entry(6, DRY, Condition::Always),
+    Entry(5, FROST, Condition::Always),
+    Entry(5, WET, Condition::NotSlippery),
+    Entry(5, SLUSH, Condition::Shallow),
+    Entry(5, DRY_SNOW, Condition::Shallow),
+    Entry(5, WET_SNOW, Condition::Shallow),
+    Entry(4, COMPACTED_SNOW, Condition::Cold),
+    Entry(3, WET, Condition::Slippery),
+    Entry(3, DRY_SNOW_ON_COMPACTED_SNOW, Condition::Always),
+    Entry(3, WET_SNOW_ON_COMPACTED_SNOW, Condition::Always),
+    Entry(3, DRY_SNOW, Condition::Deeper),
+    Entry(3, WET_SNOW, Condition::Deeper),
+    Entry(3, COMPACTED_SNOW, Condition::Milder),
+    Entry(2, STANDING_WATER, Condition::Deeper),
+    Entry(2, SLUSH, Condition::Deeper),
+    Entry(1, ICE, Condition::Always),
+    Entry(0, WET_ICE, Condition::Always),
+    Entry(0, WATER_ON_COMPACTED_SNOW, Condition::Always),
+    Entry(0, DRY_SNOW_ON_ICE, Condition::Always),
+    Entry(0, WET_SNOW_ON_ICE, Condition::Always),
 ];
 
 // The line of the table at a place counted from 0: the first of those that are left from there.
-fn line_at(i: usize) -> Line
+fn line_at(i: usize) -> Entry
     requires { ⌜ i < length table1 ⌝ }
     ensures { λ r. ⌜ drop i table1 ≡ r ∷ drop (i + 1) table1 ⌝ }
 {
@@ -248,8 +249,8 @@ fn holds(c: Condition, o: Observation) -> bool
     }
 }
 
-fn fits(l: Line, kind: u8, o: Observation) -> bool
-    ensures { λ r. ⌜ r ≡ fits l kind o ⌝ }
+fn is_for(l: Entry, kind: u8, o: Observation) -> bool
+    ensures { λ r. ⌜ r ≡ isFor l kind o ⌝ }
 {
     if l.1 == kind {
         let condition = l.2;
@@ -265,7 +266,7 @@ fn code_for(kind: u8, o: Observation) -> u8
     let mut i = 0;
     while i < LINES {
         let l = line_at(i);
-        if fits(l, kind, o) {
+        if is_for(l, kind, o) {
             return l.0;
         }
         i += 1;
@@ -288,7 +289,7 @@ fn can_hold(c: Condition, depth: u16) -> bool
     }
 }
 
-fn allows(l: Line, t: Third) -> bool
+fn allows(l: Entry, t: Third) -> bool
     ensures { λ r. ⌜ r ≡ allows l t ⌝ }
 {
     if l.1 != t.description {
@@ -493,10 +494,6 @@ fn assessed(o: Observation) -> Third
     covered(reported_kind(o), o)
 }
 
-const OUT_OF_RANGE: u8 = 15;
-
-const CONTRADICTORY: u8 = 16;
-
 pub const BLANK_THIRD: Third = Third {
     code: 0,
     coverage: NR,
@@ -511,7 +508,7 @@ pub fn assess(o: Observation) -> Assessment
     if in_range(o) {
         if contradictory(o) {
             return Assessment {
-                refusal: CONTRADICTORY,
+                refusal: refusal::CONTRADICTION,
                 third: BLANK_THIRD,
             };
         }
@@ -521,7 +518,7 @@ pub fn assess(o: Observation) -> Assessment
         };
     }
     Assessment {
-        refusal: OUT_OF_RANGE,
+        refusal: refusal::OUT_OF_RANGE,
         third: BLANK_THIRD,
     }
 }

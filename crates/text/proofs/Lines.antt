@@ -14,7 +14,7 @@ use Rattle.text.specs.Names.{past}
 use Rattle.text.specs.Lines.{feeds, isReturn, endSize, lineSize, lineStep, closed}
 use Rattle.text.specs.Choice.{pick, all}
 use Rattle.text.specs.declared.Line.{Line}
-use Rattle.text.specs.Held.{Reached, firstLine, isUnfed}
+use Rattle.text.specs.Code.Held.{Reached, firstLine, isUnfed}
 use Rattle.text.specs.Laws.Sizes.{size}
 use Rattle.text.specs.Laws.Base.{and-1, and-2, true-false}
 use Rattle.text.specs.Laws.Held.{reached-length}

@@ -45,3 +45,18 @@ sameAll p (a ∷ as′) (b ∷ bs) = p a b and sameAll p as′ bs
 -- byte by byte
 abbrev pub sameBytes : List ℕ → List ℕ → Bool
 sameBytes = sameAll eqb
+
+-- a test, and what is answered where it fails
+pub record Test (A : Type 0) : Type 0 where
+  pub holds : Bool
+  pub gives : A
+
+-- the test b, or else a
+abbrev pub _else_ : {A : Type 0} → Bool → A → Test A
+b else a = record { holds = b; gives = a }
+
+infixr 70 _else_
+-- the first test that fails decides; the last value where all hold
+abbrev pub firstFailing : {A : Type 0} → List (Test A) → A → A
+firstFailing [] a = a
+firstFailing (t ∷ ts) a = pick (t .holds) (firstFailing ts a) (t .gives)

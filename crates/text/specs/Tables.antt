@@ -3,13 +3,13 @@ use Prim.Native.Nat.{ℕ, zero, suc}
 use mathlib.Core.Path.{_≡_, refl}
 use mathlib.Core.List.{List, [], _∷_, map}
 use mathlib.Core.Bool.{Bool, true, false}
-use Rattle.text.specs.Held.{none, noSpan, isSpace, isUnfed, startsWith, lowFirst, isByte, Eight}
+use Rattle.text.specs.Code.Held.{none, noSpan, isUnfed, startsWith, lowFirst, isByte, Eight}
+use Rattle.text.specs.Names.{isSpace, isLetter, isName, isMark, isPlainByte, inClass, readCount, run, past, readName, nameAt}
 use Rattle.text.specs.Choice.{pick, _and_, isEmpty}
 use Rattle.text.specs.Piece.{byte, gap, loose, end, last, nrGroups, bytes, spell, words, verbatim, canonical, nrText}
 use Rattle.text.specs.Read.{misfit, got, skip, readText, readGap, readLoose, readMany, whole}
 use Rattle.text.specs.Numbers.{isDigit, readDigits, digits, number, readNumber}
-use Rattle.text.specs.Names.{isLetter, isName, isMark, isPlainByte, inClass, readCount, run, past, readName, nameAt}
-use Rattle.text.specs.Lines.{lines, endSize, lineSize, lineStep, linesSize, closed, front, opened, ended}
+use Rattle.text.specs.Lines.{lines, endSize, lineSize, lineStep, linesSize, closed, allButLast, lineText, ended}
 use Rattle.text.specs.Out.{refuse, taken, atEnd}
 use Rattle.text.specs.Put.{told, farthest}
 use Rattle.text.specs.Arrays.{pad, slots, pastSlots, flat}
@@ -43,7 +43,7 @@ pub writes : Canonical
 unfolding spell
 writes = record { each = refl; spelled = refl; as-it-is = refl; nr = refl }
 
--- fixed texts, gaps, numbers and names at the front of a message
+-- fixed texts, gaps, numbers and names at the allButLast of a message
 pub record Readings : Type 0 where
   pub spaces : skip (bytes "   A B") ≡ bytes "A B"
   pub word : readText (bytes "DRY SNOW") (bytes "DRY   SNOW/") ≡ got tt (bytes "/")
@@ -97,14 +97,14 @@ pub record Lined : Type 0 where
   pub sizes : map lineSize ((65 ∷ 10 ∷ 66 ∷ []) ∷ (65 ∷ 13 ∷ 10 ∷ []) ∷ (65 ∷ 13 ∷ []) ∷ [] ∷ []) ≡ 1 ∷ 1 ∷ 2 ∷ 0 ∷ []
   pub steps : map lineStep ((65 ∷ 10 ∷ 66 ∷ []) ∷ (65 ∷ 13 ∷ 10 ∷ []) ∷ (65 ∷ 13 ∷ []) ∷ [] ∷ []) ≡ 2 ∷ 3 ∷ 2 ∷ 0 ∷ []
   pub closings : map closed (bytes "A)" ∷ bytes ")" ∷ bytes ")A" ∷ [] ∷ []) ≡ true ∷ true ∷ false ∷ false ∷ []
-  pub texts : map opened (bytes "A))" ∷ bytes ")" ∷ bytes ")A" ∷ []) ≡ bytes "A)" ∷ [] ∷ bytes ")A" ∷ []
+  pub texts : map lineText (bytes "A))" ∷ bytes ")" ∷ bytes ")A" ∷ []) ≡ bytes "A)" ∷ [] ∷ bytes ")A" ∷ []
   pub counted : map (λ n. linesSize n (65 ∷ 10 ∷ 66 ∷ 13 ∷ 10 ∷ 67 ∷ [])) (0 ∷ 1 ∷ 2 ∷ 3 ∷ 4 ∷ []) ≡ 0 ∷ 2 ∷ 5 ∷ 6 ∷ 6 ∷ []
   -- "bytes after the end": 4
   pub behind : (atEnd {A = ℕ} [] 7 ≡ taken 7) × (atEnd {A = ℕ} ([] ∷ []) 7 ≡ refuse 4)
   pub under : canonical (ended (words "A" ∷ words "B" ∷ [])) ≡ (65 ∷ 10 ∷ 66 ∷ 41 ∷ 10 ∷ [])
 
 pub lined : Lined
-unfolding lines endSize lineSize lineStep linesSize closed front ended spell
+unfolding lines endSize lineSize lineStep linesSize closed allButLast ended spell
 lined = record { none = refl; mixed = refl; empties = refl; returns = refl; ends = refl; sizes = refl; steps = refl; closings = refl; texts = refl; counted = refl; behind = (refl, refl); under = refl }
 
 -- lists in arrays, zeros behind

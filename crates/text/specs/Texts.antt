@@ -1,8 +1,7 @@
 -- Texts that are tried one after the other.
 use Prim.Native.Nat.{ℕ}
 use mathlib.Core.List.{List, [], _∷_, _++_}
-use Rattle.text.specs.Read.{Got, misfit, orElse}
-use Rattle.text.specs.Held.{readWord}
+use Rattle.text.specs.Read.{Got, misfit, orElse, readWord}
 
 -- texts, each with its value
 abbrev pub Texts : Type 0

@@ -10,10 +10,10 @@ use borrow.Author.Tests.{eqb-true, ne-eqb, leb-true}
 use native.Mathlib.Omega.{arith}
 use Rattle.text.specs.Choice.{pick, _and_, sameBytes}
 use Rattle.text.specs.Piece.{gap, byte, canonical, canonical1, bytes, spell}
-use Rattle.text.specs.Read.{Got, misfit, got, orElse, readText}
+use Rattle.text.specs.Read.{Got, misfit, got, orElse, readText, readWord}
 use Rattle.text.specs.Names.{readName}
 use Rattle.text.specs.Texts.{Texts, readFirst, behind, named}
-use Rattle.text.specs.Held.{Held, none, readWord}
+use Rattle.text.specs.Code.Held.{Held, none}
 use Rattle.text.specs.Put.{Put}
 use Rattle.text.specs.declared.Found.{Found}
 use Rattle.text.specs.Laws.Base.{and-1, and-2, below, below-at}
@@ -21,9 +21,9 @@ use Rattle.text.specs.Laws.Same.{same-true}
 use Rattle.text.specs.Laws.Words.{first-cut}
 use Rattle.surface.specs.Descriptions.{waterOnCompactedSnow, dry, descriptionName}
 use Rattle.thirds.specs.Groups.{descriptionPieces, descriptionOrder, readDescription}
-use Rattle.thirds.specs.Held.{Tried}
+use Rattle.thirds.specs.Code.Held.{Tried}
 use Rattle.thirds.specs.Laws.Sizes.{no-name}
-use Rattle.thirds.specs.Parts.{longer, wets}
+use Rattle.thirds.specs.Code.Parts.{longer, wets}
 use Rattle.thirds.proofs.Steps.{nothing, after-on, after-off, itself, else-on, else-off}
 
 else-none : {A : Type 0} (g : Got A) → orElse g misfit ≡ g

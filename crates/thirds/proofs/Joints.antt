@@ -6,12 +6,12 @@ use mathlib.Core.Bool.{true, false}
 use lib.ListN.{drop, set, getD}
 use native.Mathlib.Omega.{arith}
 use Rattle.text.specs.Piece.{bytes}
-use Rattle.text.specs.Read.{Got, misfit, got, andThen, readAfter, readText}
-use Rattle.text.specs.Held.{Held, readWord}
+use Rattle.text.specs.Read.{Got, misfit, got, andThen, readAfter, readText, readWord}
+use Rattle.text.specs.Code.Held.{Held}
 use Rattle.text.specs.Laws.Held.{got-of, misfit-of}
 use Rattle.text.specs.declared.Found.{Found}
 use Rattle.thirds.specs.Groups.{Three, readThird, readThree, readGroup}
-use Rattle.thirds.specs.Held.{jointText}
+use Rattle.thirds.specs.Code.Held.{jointText}
 use Rattle.thirds.proofs.Steps.{after-on, after-off}
 
 -- `left` thirds, each stored at its place in the array

@@ -6,13 +6,13 @@ use mathlib.Core.Bool.{Bool, true, false}
 use lib.ListN.{drop}
 use native.Mathlib.Omega.{arith}
 use Rattle.text.specs.Piece.{Piece, byte, gap, canonical, bytes}
-use Rattle.text.specs.Read.{Got, misfit, got, guard, andThen, orElse, readAfter}
-use Rattle.text.specs.Held.{Held, none, readWord}
+use Rattle.text.specs.Read.{Got, misfit, got, guard, andThen, orElse, readAfter, readWord}
+use Rattle.text.specs.Code.Held.{Held, none}
 use Rattle.text.specs.Laws.Held.{got-of, misfit-of, held-text}
 use Rattle.text.specs.Laws.Put.{canonical-append}
 use Rattle.text.specs.declared.Found.{Found}
 use Rattle.thirds.specs.Groups.{Three, thirdPieces, groupPieces}
-use Rattle.thirds.specs.Held.{Kept}
+use Rattle.thirds.specs.Code.Held.{Kept}
 
 -- a misfit is all zero
 pub nothing : {m : List ℕ} → Held m misfit none

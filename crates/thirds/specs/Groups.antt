@@ -4,10 +4,9 @@ use mathlib.Core.List.{List, [], _∷_}
 use lib.Dec.{eqb, leb}
 use Rattle.text.specs.Choice.{pick}
 use Rattle.text.specs.Piece.{Piece, bytes, spell, words, verbatim, _then_, space}
-use Rattle.text.specs.Read.{Got, readSeq, readAs, readIf, readOr, readAfter, readGap}
+use Rattle.text.specs.Read.{Got, readSeq, readAs, readIf, readOr, readAfter, readGap, readWord}
 use Rattle.text.specs.Names.{readName}
 use Rattle.text.specs.Numbers.{digits, readDigits, number, readNumber}
-use Rattle.text.specs.Held.{readWord}
 use Rattle.surface.specs.Descriptions.{notReported, compactedSnow, drySnow, drySnowOnCompactedSnow, drySnowOnIce, frost, ice, slush, standingWater, waterOnCompactedSnow, wet, wetIce, wetSnow, wetSnowOnCompactedSnow, wetSnowOnIce, dry, descriptionName}
 
 -- the groups by number, in the order in which they stand

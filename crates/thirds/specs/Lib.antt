@@ -1,6 +1,5 @@
 -- Definitions first; what is proved of them is under Laws.
 pub mod Groups
-pub mod Parts
-pub mod Held
+pub mod Code
 pub mod Pins
 pub mod Laws

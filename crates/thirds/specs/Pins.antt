@@ -9,8 +9,8 @@ use Rattle.text.specs.Read.{Got, misfit, got, skip, readText}
 use Rattle.text.specs.Names.{readName}
 use Rattle.text.specs.Numbers.{digits, readDigits}
 use Rattle.surface.specs.Descriptions.{notReported, compactedSnow, drySnow, drySnowOnCompactedSnow, drySnowOnIce, frost, ice, slush, standingWater, waterOnCompactedSnow, wet, wetIce, wetSnow, wetSnowOnCompactedSnow, wetSnowOnIce, dry}
-use Rattle.thirds.specs.Parts.{dries, wets}
-use Rattle.thirds.specs.Held.{noTrio, jointText}
+use Rattle.thirds.specs.Code.Parts.{dries, wets}
+use Rattle.thirds.specs.Code.Held.{noTrio, jointText}
 use Rattle.thirds.specs.Groups.{codes, coverages, depths, descriptions, descriptionOrder, measurePieces, readMeasure, readCoverage, readDescription, thirdPieces, readThird, highest, Three, groupPieces, readGroup}
 
 abbrev text : ℕ → ℕ → List ℕ

@@ -2,12 +2,13 @@
 ghost use lib.ListN.{drop};
 ghost use Rattle.text.specs.Piece.{canonical};
 ghost use Rattle.text.specs.Numbers.{readNumber};
-ghost use Rattle.text.specs.Held.{Held, readWord};
+ghost use Rattle.text.specs.Code.Held.{Held};
+ghost use Rattle.text.specs.Read.{readWord};
 ghost use Rattle.text.specs.Put.{Put};
 ghost use Rattle.text.specs.Texts.{readFirst};
 ghost use Rattle.thirds.specs.Groups.{measurePieces, readMeasure, readCoverage, descriptionPieces, readDescription, thirdPieces, readThird, groupPieces, readGroup};
-ghost use Rattle.thirds.specs.Parts.{onTop, snows, behindDry, dries, behindWet, wets};
-ghost use Rattle.thirds.specs.Held.{HeldThree, Tried, Kept, jointText};
+ghost use Rattle.thirds.specs.Code.Parts.{onTop, snows, behindDry, dries, behindWet, wets};
+ghost use Rattle.thirds.specs.Code.Held.{HeldThree, Tried, Kept, jointText};
 use fill::put;
 use fill::put_digits;
 use scan::digits;

@@ -15,8 +15,8 @@ use Rattle.items.specs.declared.Item.{Item}
 use Rattle.items.specs.ItemText.{itemPieces}
 use Rattle.items.specs.Awareness.{awarenessPieces}
 
-abbrev pub lineText : List Item → List ℕ
-lineText is = canonical (awarenessPieces is)
+abbrev pub awarenessText : List Item → List ℕ
+awarenessText is = canonical (awarenessPieces is)
 
 -- another item, and the space before it
 abbrev spaced : Item → List Piece
@@ -26,7 +26,7 @@ lay-more : (is : List Item) (i : Item) → layAll spaced (is ++ (i ∷ [])) ≡ 
 lay-more [] i = append-nil (spaced i)
 lay-more (j ∷ is) i = ap (λ (p : List Piece). spaced j ++ p) (lay-more is i) ∙ sym (append-assoc (spaced j) (layAll spaced is) (spaced i))
 
-line-more : (j : Item) (is : List Item) (i : Item) → lineText (j ∷ (is ++ (i ∷ []))) ≡ lineText (j ∷ is) ++ (bytes " " ++ canonical (itemPieces i))
+line-more : (j : Item) (is : List Item) (i : Item) → awarenessText (j ∷ (is ++ (i ∷ []))) ≡ awarenessText (j ∷ is) ++ (bytes " " ++ canonical (itemPieces i))
 unfolding awarenessPieces
 line-more j is i =
     ap (λ (p : List Piece). canonical (itemPieces j ++ p)) (lay-more is i)
@@ -35,18 +35,18 @@ line-more j is i =
 
 -- the item at place k
 pub line-next : (d : Item) (items : List Item) (k : ℕ) → k < length items
-    → lineText (take (k + 1) items) ≡ lineText (take k items) ++ (pick (eqb k 0) [] (bytes " ") ++ canonical (itemPieces (getD items k d)))
+    → awarenessText (take (k + 1) items) ≡ awarenessText (take k items) ++ (pick (eqb k 0) [] (bytes " ") ++ canonical (itemPieces (getD items k d)))
 unfolding awarenessPieces
 line-next d [] k h = absurd (omega arith)
 line-next d (i ∷ is) zero h = ap canonical (append-nil (itemPieces i))
 line-next d (i ∷ is) (suc k) h =
     let e : take (suc k) is ≡ take k is ++ (getD is k d ∷ []) = take-suc is k d (omega arith) in
-    rw (add-one, ne-eqb (suc k) 0 (λ z. absurd (omega arith))) (ap (λ (l : List Item). lineText (i ∷ l)) e ∙ line-more i (take k is) (getD is k d))
+    rw (add-one, ne-eqb (suc k) 0 (λ z. absurd (omega arith))) (ap (λ (l : List Item). awarenessText (i ∷ l)) e ∙ line-more i (take k is) (getD is k d))
 
 -- all of them
 module _ (items : List Item) (n k : ℕ) (h : k ≤ n) where
-  pub line-used : n ≤ k → lineText (take k items) ≡ lineText (take n items)
+  pub line-used : n ≤ k → awarenessText (take k items) ≡ awarenessText (take n items)
   line-used u = let z : k ≡ n = omega arith in rw z
 
-  pub line-left : length items ≤ k → lineText (take k items) ≡ lineText (take n items)
-  line-left u = ap lineText (take-all k items u ∙ sym (take-all n items (omega arith)))
+  pub line-left : length items ≤ k → awarenessText (take k items) ≡ awarenessText (take n items)
+  line-left u = ap awarenessText (take-all k items u ∙ sym (take-all n items (omega arith)))

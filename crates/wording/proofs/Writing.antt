@@ -19,7 +19,7 @@ use Rattle.text.specs.Numbers.{number, digits}
 use Rattle.items.specs.Item.{nameAtFront}
 use Rattle.items.specs.ItemText.{edgeName, ofRunway, ofTaxiways, lengthText, bankText, itemText, itemPieces}
 use Rattle.items.specs.Laws.Language.{verbatim-bytes}
-use Rattle.wording.specs.Slots.{FrontSlot, taxiwayNames}
+use Rattle.wording.specs.Code.Slots.{FrontSlot, taxiwayNames}
 
 -- a fixed text is written as it stands
 pub spell-bytes : (l : List ℕ) → canonical (spell l) ≡ l

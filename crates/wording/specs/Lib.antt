@@ -1,2 +1,2 @@
 -- What the promises cite.
-pub mod Slots
+pub mod Code

@@ -10,7 +10,7 @@ ghost use Rattle.text.specs.Put.{Put};
 ghost use Rattle.items.specs.Awareness.{awarenessPieces};
 ghost use Rattle.items.specs.Item.{nameAtFront};
 ghost use Rattle.items.specs.ItemText.{edgeName, ofRunway, lengthText, bankText, ofTaxiways, poorTaxiways, poorApron, itemText, itemPieces};
-ghost use Rattle.wording.specs.Slots.{FrontSlot, taxiwayNames};
+ghost use Rattle.wording.specs.Code.Slots.{FrontSlot, taxiwayNames};
 use fill::put;
 use fill::put_digits;
 use fill::told_behind;

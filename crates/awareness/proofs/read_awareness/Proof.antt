@@ -10,7 +10,7 @@ use borrow.Author.Tests.{not-true, not-false}
 use Rattle.text.specs.Choice.{pick}
 use Rattle.text.specs.Read.{misfit}
 use Rattle.items.specs.Awareness.{standsBehind, mostItems, wholeAwareness}
-use Rattle.awareness.specs.Held.{itemsAnswer}
+use Rattle.awareness.specs.Code.Held.{itemsAnswer}
 use Rattle.awareness.proofs.Forms.{no-body, no-stop, stopped}
 use Rattle.awareness.proofs.Back.{back-on, back-off, back-lower}
 use Rattle.awareness.proofs.LineReading.{SoFar, begun, size, ends, full, stray, misplaced, goes-on}

@@ -9,7 +9,7 @@ use borrow.Author.Needs.{needs}
 use borrow.Author.Tests.{not-true, not-false}
 use Rattle.text.specs.Read.{readAs}
 use Rattle.items.specs.ReadItem.{readSomeTaxiways}
-use Rattle.awareness.specs.Named.{inSlots}
+use Rattle.awareness.specs.Code.Named.{inSlots}
 use Rattle.awareness.proofs.Named.{name-there, name-off}
 use Rattle.awareness.proofs.Slots.{readFrom, from-start, from-full, from-none, from-next}
 use Rattle.awareness.proofs.taxiways.Statement.{statement}

@@ -7,7 +7,7 @@ use lib.ListN.{drop}
 use Rattle.text.specs.Read.{Got, misfit, got}
 use Rattle.items.specs.declared.Item.{Item}
 use Rattle.awareness.specs.declared.ItemFound.{ItemFound}
-use Rattle.awareness.specs.Held.{HeldItem}
+use Rattle.awareness.specs.Code.Held.{HeldItem}
 
 module _ {m : List ℕ} {g : Got Item} (r : ItemFound) (h : HeldItem m g r) where
   pub item-of : r .fits ≡ true → g ≡ got (r .item) (drop (r .next) m)

@@ -67,9 +67,9 @@ same-board c e v w s h =
     place i (no l) = let n = s .count in past c v i (omega arith) ∙ sym (past e w i (omega arith))
 
 -- what an opening that is taken gives
-pub opened : (a : List ℕ) (n : ℕ) (ws : List Runway) (b : Board) → opening a n ws ≡ answer 0 b → (b ≡ fresh a n ws) × (validBoard b ≡ true)
+pub opened-fresh : (a : List ℕ) (n : ℕ) (ws : List Runway) (b : Board) → opening a n ws ≡ answer 0 b → (b ≡ fresh a n ws) × (validBoard b ≡ true)
 unfolding opening
-opened a n ws b taken = go (validList a n ws) refl taken
+opened-fresh a n ws b taken = go (validList a n ws) refl taken
   where
     go : (t : Bool) → validList a n ws ≡ t → pick t (answer 0 (fresh a n ws)) refusedOpening ≡ answer 0 b → (b ≡ fresh a n ws) × (validBoard b ≡ true)
     go true h f = let i = sym (ap (λ x. x .board) f) in (i, subst (λ c. validBoard c ≡ true) (sym i) (fresh-valid a n ws h))

@@ -13,12 +13,12 @@ use Rattle.row.specs.declared.Row.{Row}
 use Rattle.runway.specs.Time.{realTime, realDay}
 use Rattle.surface.specs.Third.{isBlankThird}
 use Rattle.row.specs.Row.{validRow, blankRow, isBlankRow, threeThat}
-use Rattle.row.specs.Agreement.{invalidRow}
+use Rattle.text.specs.Refusals.{invalidRow, wrongBoard, notOnBoard, notLater}
 use Rattle.row.specs.Laws.Row.{blank-row}
 use Rattle.board.specs.declared.Runway.{Runway}
 use Rattle.board.specs.declared.Board.{Board}
-use Rattle.board.specs.Board.{blankRunway, comesBefore, rises, rising, validList, names, fitsPlace, fitPlaces, validPlaces, runwaysOf, validBoard, fresh, answer, wrongBoard}
-use Rattle.board.specs.Report.{placeOf, rowAt, isNews, stored, notOnBoard, notLater, report, reports}
+use Rattle.board.specs.Board.{blankRunway, comesBefore, rises, rising, validList, names, fitsPlace, fitPlaces, validPlaces, runwaysOf, validBoard, fresh, answer}
+use Rattle.board.specs.Report.{placeOf, rowAt, isNews, stored, report, reports}
 
 -- a blank row is blank, and no valid row is
 pub blank-blank : isBlankRow blankRow ≡ true

@@ -12,11 +12,11 @@ use Rattle.text.specs.Laws.Base.{true-false, and-1}
 use Rattle.row.specs.declared.Row.{Row}
 use Rattle.runway.specs.Time.{later}
 use Rattle.row.specs.Row.{validRow, blankRow, isBlankRow}
-use Rattle.row.specs.Agreement.{invalidRow}
+use Rattle.text.specs.Refusals.{invalidRow, wrongBoard, notOnBoard, notLater}
 use Rattle.runway.specs.Laws.Time.{later-self}
 use Rattle.board.specs.declared.Board.{Board}
-use Rattle.board.specs.Board.{blankRunway, names, runwaysOf, validBoard, answer, wrongBoard}
-use Rattle.board.specs.Report.{placeOf, rowAt, isNews, stored, notOnBoard, notLater, report}
+use Rattle.board.specs.Board.{blankRunway, names, runwaysOf, validBoard, answer}
+use Rattle.board.specs.Report.{placeOf, rowAt, isNews, stored, report}
 use Rattle.board.specs.Shows.{nothing, row, shown, runwayAt, shownAt}
 use Rattle.board.specs.Laws.Shows.{newer, next, row-real}
 use Rattle.board.specs.Laws.Rules.{valid-not-blank, place-is, rules, used, takes, report-board, took, stored-valid, report-20}

@@ -22,7 +22,7 @@ use Rattle.board.specs.declared.Board.{Board}
 use Rattle.boardnotice.specs.declared.Details.{Details}
 use Rattle.board.specs.Board.{blankRunway, comesBefore, rises, rising, isAerodrome, validList, names, fitsPlace, fitPlaces, runwaysOf, validBoard}
 use Rattle.board.specs.Shows.{ReportFor}
-use Rattle.boardnotice.specs.Writing.{reported, recordOf, writingBoard}
+use Rattle.boardnotice.specs.Writing.{reported, boardRecord, writingBoard}
 use Rattle.board.specs.Laws.Rules.{before-trans, before-apart, rules}
 
 -- a place holds zeros, or a valid row of its runway
@@ -128,7 +128,7 @@ module _ (b : Board) (v : validBoard b ≡ true) (some : isEmpty (reported (b .r
     abbrev details : Details
     details = detailsOf r
 
-    pub board-record : validRecord (recordOf b details (r .items) (r .language)) ≡ true
+    pub board-record : validRecord (boardRecord b details (r .items) (r .language)) ≡ true
     unfolding validRecord validTitle validList isAerodrome
     board-record =
         let h₁ = and-2 _ _ h in
@@ -139,7 +139,7 @@ module _ (b : Board) (v : validBoard b ≡ true) (some : isEmpty (reported (b .r
         and-i (and-1 _ _ h) (and-i (and-1 _ _ h₁) (and-i title (and-i (rows-valid (reported (b .rows)) rows-good) (and-2 _ _ h₃))))
 
     -- such a board is written, if there is room
-    pub board-written : (room : ℕ) → length (noticeText (recordOf b details (r .items) (r .language))) ≤ room
-        → writingBoard b details (r .items) (r .language) room ≡ record { refusal = 0; length = length (noticeText (recordOf b details (r .items) (r .language))) }
+    pub board-written : (room : ℕ) → length (noticeText (boardRecord b details (r .items) (r .language))) ≤ room
+        → writingBoard b details (r .items) (r .language) room ≡ record { refusal = 0; length = length (noticeText (boardRecord b details (r .items) (r .language))) }
     unfolding writingBoard writing
-    board-written room fits = rw (v, some, board-record, le-leb (length (noticeText (recordOf b details (r .items) (r .language)))) room fits)
+    board-written room fits = rw (v, some, board-record, le-leb (length (noticeText (boardRecord b details (r .items) (r .language)))) room fits)

@@ -7,7 +7,7 @@ use mathlib.Core.Logic.{⊎-elim}
 use native.Mathlib.Omega.{arith}
 use lib.ListN.{take, drop}
 use Rattle.body.specs.Rows.{mostRows, isAmong}
-use Rattle.body.specs.Held.{rowsAnswer, RowsHeld}
+use Rattle.body.specs.Code.Held.{rowsAnswer, RowsHeld}
 use Rattle.text.specs.Laws.Arrays.{none-left}
 use Rattle.body.proofs.Loops.{among-hit, among-miss, among-none}
 use Rattle.body.proofs.Steps.{SoFar, begun, size, refused, missing, within, blank-line, ninth, stray, twice, goes-on, last-line}

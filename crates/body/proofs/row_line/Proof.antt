@@ -3,9 +3,9 @@ use mathlib.Core.Logic.{⊎-elim}
 use native.Mathlib.Omega.{arith}
 use lib.ListN.{length, take, length-take}
 use lib.Seq.{take-all}
-use Rattle.text.specs.Lines.{opened}
+use Rattle.text.specs.Lines.{lineText}
 use Rattle.text.specs.Laws.Lines.{front-part, closed-some}
-use Rattle.body.specs.Held.{rowLine}
+use Rattle.body.specs.Code.Held.{rowLine}
 use borrow.Author.Needs.{needs}
 use Rattle.body.proofs.row_line.Statement.{statement}
 use Rattle.body.proofs.row_line.Tie as tie
@@ -23,7 +23,7 @@ read-row-requires : tie.Need-read-row-requires
 read-row-requires c κs = search needs
 
 -- what is read is the line without the `)` that closes it
-text-read : (c : tie.Joined1) → take (c .if1 .size) (c .before .before .before .args .line .now) ≡ opened (c .before .before .before .args .line .now)
+text-read : (c : tie.Joined1) → take (c .if1 .size) (c .before .before .before .args .line .now) ≡ lineText (c .before .before .before .args .line .now)
 text-read c =
     let l = c .before .before .before .args .line .now in
     ⊎-elim (λ w. rw (w .1, sym (c .before .is-closed .ensures) ∙ w .0 .taken) (sym (front-part l)))

@@ -1,5 +1,5 @@
 use Rattle.text.specs.Laws.Tests.{tests}
-use Rattle.body.specs.Held.{rowsAnswer}
+use Rattle.body.specs.Code.Held.{rowsAnswer}
 use Rattle.text.specs.Lines.{closed}
 use borrow.Author.Needs.{needs}
 use Rattle.body.proofs.rows_answer.Statement.{statement}

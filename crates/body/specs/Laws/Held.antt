@@ -13,7 +13,7 @@ use Rattle.body.specs.declared.Rows.{Rows}
 use Rattle.body.specs.declared.RowsRead.{RowsRead}
 use Rattle.text.specs.Out.{refuse, taken, finished, more}
 use Rattle.body.specs.Rows.{mostRows, rowsOf, makeRows, Block, block, readRows}
-use Rattle.body.specs.Held.{noRows, RowsHeld}
+use Rattle.body.specs.Code.Held.{noRows, RowsHeld}
 use Rattle.text.specs.Laws.Out.{no-refuse, took}
 
 -- `)` and an empty line are told apart

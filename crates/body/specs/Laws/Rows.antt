@@ -11,7 +11,7 @@ use Rattle.text.specs.Choice.{pick, all, isEmpty}
 use Rattle.text.specs.Piece.{Piece, Typing, done}
 use Rattle.text.specs.Read.{got}
 use Rattle.text.specs.Numbers.{isDigit}
-use Rattle.text.specs.Lines.{closed, opened}
+use Rattle.text.specs.Lines.{closed, lineText}
 use Rattle.text.specs.Laws.Base.{Head, true-false, and-1, and-2, and-i}
 use Rattle.text.specs.Laws.Lines.{Tells, whole-sound, whole-complete, next as and-next}
 use Rattle.row.specs.declared.Row.{Row}
@@ -52,11 +52,11 @@ rows-sound n seen ([] ∷ ls) {b} e = go (isEmpty seen) refl e
     })
 rows-sound zero seen ((x ∷ l) ∷ ls) e = no-refuse e
 rows-sound (suc n) seen ((x ∷ l) ∷ ls) {b} e =
-    let f = fit-took 5 (wholeRow (opened (x ∷ l))) e in
+    let f = fit-took 5 (wholeRow (lineText (x ∷ l))) e in
     let w = whole-sound row-laws (f .one) in
     go (f .val) (w .0) (w .1) (isAmong (f .val) seen) refl (closed (x ∷ l)) refl (f .two) (λ r c g. rows-sound n (seen ++ (r ∷ [])) ls g)
   where
-    go : (r : Row) → validRow r ≡ true → Typing (rowPieces r) (opened (x ∷ l)) → (a : Bool) → isAmong r seen ≡ a → (c : Bool) → closed (x ∷ l) ≡ c
+    go : (r : Row) → validRow r ≡ true → Typing (rowPieces r) (lineText (x ∷ l)) → (a : Bool) → isAmong r seen ≡ a → (c : Bool) → closed (x ∷ l) ≡ c
         → pick a (refuse 7) (pick c (atEnd ls (block (seen ++ (r ∷ [])) finished)) (readRows n (seen ++ (r ∷ [])) ls)) ≡ taken b
         → ((r : Row) (c : Block) → readRows n (seen ++ (r ∷ [])) ls ≡ taken c → Read n (seen ++ (r ∷ [])) ls c) → Read (suc n) seen ((x ∷ l) ∷ ls) b
     go r v t true s c q f ih = no-refuse f
@@ -91,7 +91,7 @@ pub record Back (n : ℕ) (seen : List Row) (ls : List (List ℕ)) (rows : List 
 
 -- a line that is not empty, read where a row may stand
 pub row-line : (n : ℕ) (seen : List Row) (k : List ℕ) (ls : List (List ℕ)) → isEmpty k ≡ false
-    → readRows (suc n) seen (k ∷ ls) ≡ fit 5 (wholeRow (opened k)) (λ r. pick (isAmong r seen) (refuse 7) (pick (closed k) (atEnd ls (block (seen ++ (r ∷ [])) finished)) (readRows n (seen ++ (r ∷ [])) ls)))
+    → readRows (suc n) seen (k ∷ ls) ≡ fit 5 (wholeRow (lineText k)) (λ r. pick (isAmong r seen) (refuse 7) (pick (closed k) (atEnd ls (block (seen ++ (r ∷ [])) finished)) (readRows n (seen ++ (r ∷ [])) ls)))
 unfolding readRows
 row-line n seen [] ls h = true-false h
 row-line n seen (x ∷ l) ls h = refl
@@ -134,14 +134,14 @@ closed-row : (n : ℕ) (seen : List Row) (r : Row) (k l : List ℕ) → validRow
     → readRows (suc n) seen (k ∷ []) ≡ taken (block (seen ++ (r ∷ [])) finished)
 closed-row n seen r k l v a e t =
     let o = opened-closed l k e in
-    let w : wholeRow (opened k) ≡ got r [] = ap wholeRow (o .1) ∙ whole-complete row-laws r v t in
+    let w : wholeRow (lineText k) ≡ got r [] = ap wholeRow (o .1) ∙ whole-complete row-laws r v t in
     row-line n seen k [] (ap isEmpty e ∙ append-some l 41) ∙ rw (w, a, o .0)
 
 open-row : (n : ℕ) (seen : List Row) (r : Row) (l : List ℕ) (ls : List (List ℕ)) (b : Block) → validRow r ≡ true → isAmong r seen ≡ false → Typing (rowPieces r) l
     → readRows n (seen ++ (r ∷ [])) ls ≡ taken b → readRows (suc n) seen (l ∷ ls) ≡ taken b
 open-row n seen r l ls b v a t e =
     let o = opened-open row-laws r v t in
-    let w : wholeRow (opened l) ≡ got r [] = ap wholeRow (o .1) ∙ whole-complete row-laws r v t in
+    let w : wholeRow (lineText l) ≡ got r [] = ap wholeRow (o .1) ∙ whole-complete row-laws r v t in
     row-line n seen l ls (row-some r v t) ∙ rw (w, a, o .0) e
 
 pub rows-complete : (n : ℕ) (seen rows : List Row) {ls : List (List ℕ)} {pss : List (List Piece)} → Tail pss → all validRow rows ≡ true → newRunways seen rows ≡ true → length rows ≤ n
@@ -177,5 +177,5 @@ unfolding readRows
 rows-numbered n seen [] = (lit< tt, lit≤ tt)
 rows-numbered n seen ([] ∷ ls) = pick-numbered (isEmpty seen) (refuse 4) (taken (block seen (more ls))) (lit< tt, lit≤ tt) tt
 rows-numbered zero seen ((x ∷ l) ∷ ls) = (lit< tt, lit≤ tt)
-rows-numbered (suc n) seen ((x ∷ l) ∷ ls) = fit-numbered (wholeRow (opened (x ∷ l))) _ (lit< tt, lit≤ tt) (λ r. pick-numbered (isAmong r seen) _ _ (lit< tt, lit≤ tt)
+rows-numbered (suc n) seen ((x ∷ l) ∷ ls) = fit-numbered (wholeRow (lineText (x ∷ l))) _ (lit< tt, lit≤ tt) (λ r. pick-numbered (isAmong r seen) _ _ (lit< tt, lit≤ tt)
     (pick-numbered (closed (x ∷ l)) _ _ (end-numbered ls (block (seen ++ (r ∷ [])) finished)) (rows-numbered n (seen ++ (r ∷ [])) ls)))

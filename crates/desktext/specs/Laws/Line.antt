@@ -6,11 +6,10 @@ use mathlib.Core.Bool.{Bool, true, false}
 use lib.ListN.{length, take, getD, replicate, length-append}
 use borrow.Author.Tests.{eqb-true, leb-true}
 use native.Mathlib.Omega.{arith}
-use Rattle.text.specs.Held.{isSpace}
+use Rattle.text.specs.Names.{isSpace, isLetter, readCount}
 use Rattle.text.specs.Choice.{pick, _and_, all, headIs}
 use Rattle.text.specs.Piece.{Typing, canonical, end, _then_}
 use Rattle.text.specs.Read.{Got, misfit, got, whole, readAs}
-use Rattle.text.specs.Names.{isLetter, readCount}
 use Rattle.text.specs.Arrays.{pad}
 use Rattle.text.specs.Laws.Base.{Laws, Head, Any, inner, and-1, and-2}
 use Rattle.text.specs.Laws.Combine.{seq-laws, as-laws, loosen}
@@ -36,8 +35,8 @@ use Rattle.board.specs.Board.{places, blankRunway, isBlankRunway, isAerodrome, 
 use Rattle.board.specs.Report.{rowAt}
 use Rattle.board.specs.Shows.{nothing, row, shownAt}
 use Rattle.board.specs.Laws.Rules.{blank-invalid, rules, used, fit-at}
-use Rattle.board.specs.Laws.Demand.{opened as was-opened}
-use Rattle.desktext.specs.Line.{spacedPieces, readSpaced, makeRunway, openingPieces, readOpening, opened, openingLine}
+use Rattle.board.specs.Laws.Demand.{openingRead as was-opened}
+use Rattle.desktext.specs.Line.{spacedPieces, readSpaced, makeRunway, openingPieces, readOpening, openingRead, openingLine}
 
 -- a number of two digits and a side: what a line can hold
 abbrev pub Written : Runway → Type 0
@@ -98,7 +97,7 @@ pub line-sound : (line : List ℕ) (b : Board) → openingLine line ≡ answer 0
 unfolding openingLine
 line-sound line b e = go (whole (readOpening line)) refl e
   where
-    go : (g : Got (List ℕ × List Runway)) → whole (readOpening line) ≡ g → opened g ≡ answer 0 b → Typing (openingPieces (b .aerodrome) (runwaysOf b)) line
+    go : (g : Got (List ℕ × List Runway)) → whole (readOpening line) ≡ g → openingRead g ≡ answer 0 b → Typing (openingPieces (b .aerodrome) (runwaysOf b)) line
     go misfit q f = let z = ap (λ x. x .refusal) f in absurd (omega arith)
     go (got p r) q f =
         let o = was-opened (p .0) (length (p .1)) (pad places blankRunway (p .1)) b f .0 in

@@ -1,4 +1,4 @@
-use Rattle.front.specs.Front.{lineRefusal}
+use Rattle.front.specs.Code.Front.{lineRefusal}
 use Rattle.text.specs.Laws.Tests.{tests}
 use Rattle.front.proofs.line_refusal.Statement.{statement}
 use Rattle.front.proofs.line_refusal.Tie as tie

@@ -9,7 +9,7 @@ use lib.ListN.{length, take, drop}
 use Rattle.text.specs.Lines.{lines, linesSize}
 use Rattle.text.specs.Laws.Lines.{line-inside, line-place}
 use Rattle.front.specs.declared.Front.{Front}
-use Rattle.front.specs.Front.{frontCount, blankFront, fillLine, fillLines, FrontHeld}
+use Rattle.front.specs.Code.Front.{frontCount, blankFront, fillLine, fillLines, FrontHeld}
 use Rattle.front.proofs.Opening.{fill-addresses, fill-filing, fill-heading, fill-serial, fill-aerodrome, line-missing, step-on, step-off, front-read, front-refused}
 use borrow.Author.Needs.{needs}
 use borrow.Author.Tests.{not-true, not-false}

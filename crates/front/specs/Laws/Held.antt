@@ -11,7 +11,7 @@ use Rattle.text.specs.Out.{refuse, taken}
 use Rattle.text.specs.Laws.Out.{no-refuse, took}
 use Rattle.front.specs.declared.Front.{Front}
 use Rattle.front.specs.declared.FrontRead.{FrontRead}
-use Rattle.front.specs.Front.{frontCount, blankFront, fillLines, noFront, FrontHeld}
+use Rattle.front.specs.Code.Front.{frontCount, blankFront, fillLines, noFront, FrontHeld}
 
 module _ {m : List ℕ} {r : FrontRead} (h : FrontHeld m r) where
   took-front : r .refusal ≡ 0 → fillLines frontCount 0 blankFront (lines m) ≡ taken (r .front, lines (drop (r .next) m))

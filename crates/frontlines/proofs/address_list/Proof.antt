@@ -9,7 +9,7 @@ use lib.Seq.{length-sets}
 use borrow.Author.Needs.{needs}
 use borrow.Author.Tests.{not-true, not-false}
 use Rattle.text.specs.Laws.Base.{true-false}
-use Rattle.frontlines.specs.Answers.{listAnswer}
+use Rattle.frontlines.specs.Code.Answers.{listAnswer}
 use Rattle.frontlines.proofs.Groups.{span-off, span-on, span-within, gap-long}
 use Rattle.frontlines.proofs.List.{onto, listFrom, onto-all, list-on, way-end, way-full, way-off}
 use Rattle.frontlines.proofs.address_list.Statement.{statement}

@@ -3,7 +3,7 @@ use native.Mathlib.Omega.{arith}
 use borrow.Author.Tests.{not-true, not-false}
 use borrow.Author.Needs.{needs}
 use Rattle.text.specs.Laws.Held.{misfit-of, got-of, part-all}
-use Rattle.frontlines.specs.Answers.{addressesAnswer}
+use Rattle.frontlines.specs.Code.Answers.{addressesAnswer}
 use Rattle.frontlines.specs.declared.AddressList.{AddressList}
 use Rattle.frontlines.proofs.List.{no-priority, none-listed, some-listed, priority-low}
 use Rattle.frontlines.proofs.read_addresses.Statement.{statement}

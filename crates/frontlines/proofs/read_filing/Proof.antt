@@ -5,7 +5,7 @@ use lib.Seq.{drop-cons}
 use borrow.Author.Tests.{not-true, not-false}
 use borrow.Author.Needs.{needs}
 use Rattle.text.specs.Laws.Held.{misfit-of, got-of}
-use Rattle.frontlines.specs.Answers.{filingAnswer}
+use Rattle.frontlines.specs.Code.Answers.{filingAnswer}
 use Rattle.frontlines.proofs.Groups.{span-off, span-on, gap-long}
 use Rattle.frontlines.proofs.Lines.{array-is, rest-none, no-time, no-originator, filing-left, filing-whole}
 use Rattle.frontlines.proofs.read_filing.Statement.{statement}

@@ -6,7 +6,7 @@ use lib.Seq.{drop-cons}
 use borrow.Author.Tests.{not-true, not-false}
 use borrow.Author.Needs.{needs}
 use Rattle.text.specs.Laws.Held.{misfit-of, got-of, part-all}
-use Rattle.frontlines.specs.Answers.{headingAnswer}
+use Rattle.frontlines.specs.Code.Answers.{headingAnswer}
 use Rattle.frontlines.proofs.Groups.{span-off, span-on, gap-long}
 use Rattle.frontlines.proofs.Lines.{array-is, rest-none, designated, undesignated, region-long, region-inside, serial-fits, no-designator, no-aerodrome, no-observed, heading-left, heading-whole}
 use Rattle.frontlines.proofs.read_heading.Statement.{statement}

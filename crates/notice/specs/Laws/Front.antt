@@ -1,4 +1,4 @@
--- Reading the front line by line, and then what is below it, is reading the notice.
+-- Reading the front readLine by readLine, and then what is below it, is reading the notice.
 use Prim.Native.Nat.{ℕ, suc}
 use mathlib.Core.Path.{_≡_, refl}
 use mathlib.Core.List.{List, [], _∷_}
@@ -6,24 +6,24 @@ use Rattle.text.specs.Read.{Got, misfit, got, andThen, whole}
 use Rattle.frontlines.specs.Addresses.{readAddresses}
 use Rattle.frontlines.specs.Filing.{readFiling}
 use Rattle.frontlines.specs.Heading.{readHeading, readSerialLine, readAerodrome}
-use Rattle.text.specs.Out.{Out, next, fit, line, taken}
+use Rattle.text.specs.Out.{Out, next, fit, readLine, taken}
 use Rattle.record.specs.declared.Record.{Record}
 use Rattle.front.specs.declared.Front.{Front}
 use Rattle.notice.specs.Reading.{readNotice}
-use Rattle.front.specs.Front.{blankFront, withAddresses, withFiling, withHeading, withSerial, withAerodrome, frontCount, fillLine, lineRefusal, nextLine, fillLines}
-use Rattle.notice.specs.Below.{readBelow}
+use Rattle.front.specs.Code.Front.{blankFront, withAddresses, withFiling, withHeading, withSerial, withAerodrome, frontCount, fillLine, lineRefusal, nextLine, fillLines}
+use Rattle.notice.specs.Code.Below.{readBelow}
 
 abbrev Lines : Type 0
 Lines = List (List ℕ)
 
--- what is below n lines from the line k on
+-- what is below n lines from the readLine k on
 abbrev belowFrom : ℕ → ℕ → Front → Lines → Out Record
 belowFrom n k f ls = next (fillLines n k f ls) (λ p. readBelow (p .0) (p .1))
 
--- one line more: read by itself, and into the front
+-- one readLine more: read by itself, and into the front
 module _ {A : Type 0} (n k : ℕ) (f : Front) (read : List ℕ → Got A) (to : A → Front) (fills : (l : List ℕ) → fillLine k f l ≡ andThen (whole (read l)) (λ a r. got (to a) r)) where
   one-line : (below : A → Lines → Out Record) → ((a : A) (ls : Lines) → below a ls ≡ belowFrom n (suc k) (to a) ls)
-      → (ls : Lines) → line (lineRefusal k) read ls below ≡ belowFrom (suc n) k f ls
+      → (ls : Lines) → readLine (lineRefusal k) read ls below ≡ belowFrom (suc n) k f ls
   unfolding fillLines nextLine
   one-line below same [] = refl
   one-line below same (l ∷ ls) = rw (fills l) (go (whole (read l)))

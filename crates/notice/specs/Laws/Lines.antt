@@ -25,7 +25,7 @@ use Rattle.frontlines.specs.Heading.{Heading, readHeading, serialPieces, readSe
 use Rattle.frontlines.specs.Laws.Addresses.{addresses-laws}
 use Rattle.frontlines.specs.Laws.Filing.{filing-laws}
 use Rattle.frontlines.specs.Laws.Heading.{heading-laws, serial-line-laws, aerodrome-laws}
-use Rattle.text.specs.Out.{Out, refuse, taken, line}
+use Rattle.text.specs.Out.{Out, refuse, taken, readLine}
 use Rattle.body.specs.Rows.{mostRows, latest, readRows}
 use Rattle.remarks.specs.Remarks.{remarkLines, languageLines, readRemarks}
 use Rattle.items.specs.Parts.{noneOrLanguage}
@@ -39,7 +39,7 @@ use Rattle.record.specs.Answer.{mismatch}
 use Rattle.notice.specs.Reading.{agreeing, readNotice}
 use Rattle.notice.specs.Laws.Parts.{Parts, made, partLines, Good, title-valid}
 
--- inversion of a line, and of the agreement at the end
+-- inversion of a readLine, and of the agreement at the end
 record Line {A B : Type 0} (f : List ℕ → Got A) (ls : List (List ℕ)) (k : A → List (List ℕ) → Out B) (b : B) : Type 0 where
   first : List ℕ
   others : List (List ℕ)
@@ -49,7 +49,7 @@ record Line {A B : Type 0} (f : List ℕ → Got A) (ls : List (List ℕ)) (k : 
   reads : whole (f first) ≡ got val rest
   goes : k val others ≡ taken b
 
-line-took : {A B : Type 0} (n : ℕ) (f : List ℕ → Got A) (ls : List (List ℕ)) {k : A → List (List ℕ) → Out B} {b : B} → line n f ls k ≡ taken b → Line f ls k b
+line-took : {A B : Type 0} (n : ℕ) (f : List ℕ → Got A) (ls : List (List ℕ)) {k : A → List (List ℕ) → Out B} {b : B} → readLine n f ls k ≡ taken b → Line f ls k b
 line-took n f [] e = no-refuse e
 line-took n f (l ∷ ls) e = let x = fit-took n (whole (f l)) e in record { first = l; others = ls; is = refl; val = x .val; rest = x .rest; reads = x .one; goes = x .two }
 
@@ -174,7 +174,7 @@ notice-numbered ls₁ =
     line-numbered readSerialLine ls₄ _ (lit< tt, lit≤ tt) (λ s ls₅. line-numbered readAerodrome ls₅ _ (lit< tt, lit≤ tt) (λ p ls₆.
     next-numbered (readRows mostRows [] ls₆) _ (rows-numbered mostRows [] ls₆) (λ b. next-numbered (readRemarks (b .after)) _ (remarks-numbered (b .after)) (λ x. agree-numbered h s p (b .rows) _)))))))
 
--- every line of a notice stands within its line
+-- every readLine of a notice stands within its readLine
 rows-inline : (rs : List Row) → all validRow rs ≡ true → all inline (map rowPieces rs) ≡ true
 rows-inline [] h = refl
 rows-inline (r ∷ rs) h = and-i (row-laws .within r (and-1 _ _ h)) (rows-inline rs (and-2 _ _ h))

@@ -1,5 +1,5 @@
 use native.Mathlib.Omega.{arith}
-use Rattle.phengaryl.specs.Narrow.{narrow}
+use Rattle.phengaryl.specs.Code.Narrow.{narrow}
 use borrow.Author.Needs.{needs}
 use Rattle.phengaryl.proofs.narrow.Statement.{statement}
 use Rattle.phengaryl.proofs.narrow.Tie as tie

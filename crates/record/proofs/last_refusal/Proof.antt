@@ -1,4 +1,4 @@
-use Rattle.record.specs.Fitted.{lastRefusal}
+use Rattle.record.specs.Code.Fitted.{lastRefusal}
 use borrow.Author.Tests.{eq-eqb, ne-eqb}
 use borrow.Author.Needs.{needs}
 use Rattle.record.proofs.last_refusal.Statement.{statement}

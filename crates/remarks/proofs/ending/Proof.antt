@@ -1,5 +1,5 @@
 use Rattle.text.specs.Laws.Tests.{tests}
-use Rattle.remarks.specs.Held.{ending}
+use Rattle.remarks.specs.Code.Held.{ending}
 use borrow.Author.Needs.{needs}
 use Rattle.remarks.proofs.ending.Statement.{statement}
 use Rattle.remarks.proofs.ending.Tie as tie

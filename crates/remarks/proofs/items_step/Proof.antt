@@ -1,4 +1,4 @@
-use Rattle.remarks.specs.Held.{itemsStep}
+use Rattle.remarks.specs.Code.Held.{itemsStep}
 use borrow.Author.Needs.{needs}
 use Rattle.remarks.proofs.items_step.Statement.{statement}
 use Rattle.remarks.proofs.items_step.Tie as tie

@@ -1,5 +1,5 @@
 use Rattle.text.specs.Laws.Tests.{tests}
-use Rattle.remarks.specs.Held.{lastItems}
+use Rattle.remarks.specs.Code.Held.{lastItems}
 use borrow.Author.Needs.{needs}
 use Rattle.remarks.proofs.last_items.Statement.{statement}
 use Rattle.remarks.proofs.last_items.Tie as tie

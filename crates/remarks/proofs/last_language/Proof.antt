@@ -1,5 +1,5 @@
 use Rattle.text.specs.Laws.Tests.{tests}
-use Rattle.remarks.specs.Held.{lastLanguage}
+use Rattle.remarks.specs.Code.Held.{lastLanguage}
 use borrow.Author.Needs.{needs}
 use Rattle.remarks.proofs.last_language.Statement.{statement}
 use Rattle.remarks.proofs.last_language.Tie as tie

@@ -9,7 +9,7 @@ use native.Mathlib.Omega.{arith}
 use Rattle.text.specs.Choice.{pick, _and_, isEmpty}
 use Rattle.text.specs.Piece.{Piece, Typed, Typing, verbatim}
 use Rattle.text.specs.Read.{got}
-use Rattle.text.specs.Lines.{closed, opened}
+use Rattle.text.specs.Lines.{closed, lineText}
 use Rattle.text.specs.Laws.Base.{true-false, and-1, guard-got}
 use Rattle.text.specs.Laws.Lines.{Tells, whole-sound, whole-complete}
 use Rattle.items.specs.declared.Item.{Item}
@@ -74,19 +74,19 @@ unfolding _and_ noneOrLanguage
 remarks-sound finished e = took (Remarked finished) e (record { items = no-items; language = refl; follows = refl })
 remarks-sound (more []) e = no-refuse e
 remarks-sound (more (l ∷ ls)) {x} e =
-    let f = fit-took 8 (wholeAwareness (opened l)) e in
+    let f = fit-took 8 (wholeAwareness (lineText l)) e in
     let w = items-took (f .one) in
     go (f .val) (w .0) (w .1) (closed l) refl (isEmpty (f .val)) refl (f .two)
   where
-    behind : (is : List Item) → validItems is ≡ true → Typing (awarenessPieces is) (opened l) → closed l ≡ false → (ls : List (List ℕ)) → readLanguageLine is ls ≡ taken x → Remarked (more (l ∷ ls)) x
+    behind : (is : List Item) → validItems is ≡ true → Typing (awarenessPieces is) (lineText l) → closed l ≡ false → (ls : List (List ℕ)) → readLanguageLine is ls ≡ taken x → Remarked (more (l ∷ ls)) x
     behind is v t c [] f = no-refuse f
     behind is v t c (k ∷ ks) f = pl (closed k) refl f
       where
-        pl : (b : Bool) → closed k ≡ b → pick b (fit 9 (wholeLanguage (opened k)) (λ p. atEnd ks (remarks is p))) (refuse 4) ≡ taken x → Remarked (more (l ∷ k ∷ ks)) x
+        pl : (b : Bool) → closed k ≡ b → pick b (fit 9 (wholeLanguage (lineText k)) (λ p. atEnd ks (remarks is p))) (refuse 4) ≡ taken x → Remarked (more (l ∷ k ∷ ks)) x
         pl false q g = no-refuse g
         pl true q g =
-            let y = fit-took 9 (wholeLanguage (opened k)) g in
-            let z = language-took (opened k) (y .one) in
+            let y = fit-took 9 (wholeLanguage (lineText k)) g in
+            let z = language-took (lineText k) (y .one) in
             let d = end-took ks (y .two) in
             took (Remarked (more (l ∷ k ∷ ks))) (d .1) (record {
               items = v;
@@ -94,7 +94,7 @@ remarks-sound (more (l ∷ ls)) {x} e =
               follows = (awarenessPieces is ∷ verbatim (y .val) ∷ [], with-language is (y .val) (language-some (y .val) (z .0)), open-tells l c t (closed-tells k q (d .0) (z .1)));
             })
 
-    go : (is : List Item) → validItems is ≡ true → Typing (awarenessPieces is) (opened l) → (c : Bool) → closed l ≡ c → (b : Bool) → isEmpty is ≡ b
+    go : (is : List Item) → validItems is ≡ true → Typing (awarenessPieces is) (lineText l) → (c : Bool) → closed l ≡ c → (b : Bool) → isEmpty is ≡ b
         → pick c (pick b (refuse 8) (atEnd ls (remarks is []))) (readLanguageLine is ls) ≡ taken x → Remarked (more (l ∷ ls)) x
     go is v t true c true b f = no-refuse f
     go is v t true c false b f =
@@ -113,7 +113,7 @@ language-read is p {ls} v t = go (told t)
     go : Told (verbatim p) [] ls → readLanguageLine is ls ≡ taken (remarks is p)
     go (last-line l k e f q u) =
         let o = opened-closed l k q in
-        let w : wholeLanguage (opened k) ≡ got p [] = ap wholeLanguage (o .1) ∙ language-laws .complete p v u refl in
+        let w : wholeLanguage (lineText k) ≡ got p [] = ap wholeLanguage (o .1) ∙ language-laws .complete p v u refl in
         ap (readLanguageLine is) f ∙ rw (w, o .0)
     go (one-line l ls′ f u w) = true-false (told-some w)
 
@@ -164,9 +164,9 @@ remarks-tail (i ∷ is) (c ∷ p) = something
 -- every refusal below the rows has a number
 language-numbered : (is : List Item) (ls : List (List ℕ)) → Numbered (readLanguageLine is ls)
 language-numbered is [] = (lit< tt, lit≤ tt)
-language-numbered is (l ∷ ls) = pick-numbered (closed l) _ _ (fit-numbered (wholeLanguage (opened l)) _ (lit< tt, lit≤ tt) (λ p. end-numbered ls (remarks is p))) (lit< tt, lit≤ tt)
+language-numbered is (l ∷ ls) = pick-numbered (closed l) _ _ (fit-numbered (wholeLanguage (lineText l)) _ (lit< tt, lit≤ tt) (λ p. end-numbered ls (remarks is p))) (lit< tt, lit≤ tt)
 
 pub remarks-numbered : (after : After) → Numbered (readRemarks after)
 remarks-numbered finished = tt
 remarks-numbered (more []) = (lit< tt, lit≤ tt)
-remarks-numbered (more (l ∷ ls)) = fit-numbered (wholeAwareness (opened l)) _ (lit< tt, lit≤ tt) (λ is. pick-numbered (closed l) _ _ (pick-numbered (isEmpty is) _ _ (lit< tt, lit≤ tt) (end-numbered ls (remarks is []))) (language-numbered is ls))
+remarks-numbered (more (l ∷ ls)) = fit-numbered (wholeAwareness (lineText l)) _ (lit< tt, lit≤ tt) (λ is. pick-numbered (closed l) _ _ (pick-numbered (isEmpty is) _ _ (lit< tt, lit≤ tt) (end-numbered ls (remarks is []))) (language-numbered is ls))

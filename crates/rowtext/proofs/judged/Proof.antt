@@ -1,5 +1,5 @@
 use borrow.Author.Tests.{eq-eqb, ne-eqb}
-use Rattle.rowtext.specs.Filling.{judgedRow}
+use Rattle.rowtext.specs.Code.Filling.{judgedRow}
 use borrow.Author.Needs.{needs}
 use Rattle.rowtext.proofs.judged.Statement.{statement}
 use Rattle.rowtext.proofs.judged.Tie as tie

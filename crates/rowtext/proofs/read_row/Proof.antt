@@ -12,7 +12,7 @@ use Rattle.text.specs.Read.{readGap}
 use Rattle.text.specs.Numbers.{readDigits}
 use Rattle.runway.specs.Runway.{readRunway}
 use Rattle.rowtext.specs.Reading.{readWidth}
-use Rattle.rowtext.specs.Filling.{withTime, withRunway, withWidth, groupCount, fillGroup, fillFrom, Filled}
+use Rattle.rowtext.specs.Code.Filling.{withTime, withRunway, withWidth, groupCount, fillGroup, fillFrom, Filled}
 use Rattle.row.specs.declared.Row.{Row}
 use Rattle.rowtext.specs.declared.Step.{Step}
 use Rattle.rowtext.proofs.Steps.{as-says}

@@ -1,7 +1,7 @@
 use Rattle.rowtext.specs.Text.{numbersOf}
 use Rattle.thirds.specs.Groups.{codes}
 use Rattle.rowtext.specs.Reading.{readFull, readShort}
-use Rattle.rowtext.specs.Filling.{withRest}
+use Rattle.rowtext.specs.Code.Filling.{withRest}
 use Rattle.rowtext.proofs.Steps.{as-or}
 use borrow.Author.Needs.{needs}
 use Rattle.rowtext.proofs.rest_into.Statement.{statement}

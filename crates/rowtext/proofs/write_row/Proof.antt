@@ -13,8 +13,8 @@ returns : tie.Need-returns
 unfolding rowText
 returns c = rw (sym (c .before .valid-row .ensures) ∙ not-true _ (c .if1 .taken)) (wrote-none _)
 
-fits-requires : tie.Need-fits-requires
-fits-requires c κs = search needs
+has-room-requires : tie.Need-has-room-requires
+has-room-requires c κs = search needs
 
 put-any-row-requires : tie.Need-put-any-row-requires
 put-any-row-requires c κs = search needs
@@ -29,14 +29,14 @@ returns-2 c =
     let c₂ = c₁ .before .before in
     let c₃ = c₂ .before in
     let c₄ = c₃ .before in
-    rw (sym (c₄ .before .valid-row .ensures) ∙ not-false _ (c₄ .if1 .left)) (wrote-on (sym (c₃ .fits2 .ensures) ∙ c₂ .if2 .taken) (c₁ .put-any-row .ensures))
+    rw (sym (c₄ .before .valid-row .ensures) ∙ not-false _ (c₄ .if1 .left)) (wrote-on (sym (c₃ .has-room .ensures) ∙ c₂ .if2 .taken) (c₁ .put-any-row .ensures))
 
 returns-3 : tie.Need-returns-3
 unfolding rowText
 returns-3 c =
     let c₁ = c .before in
     let c₂ = c₁ .before in
-    rw (sym (c₂ .before .valid-row .ensures) ∙ not-false _ (c₂ .if1 .left)) (wrote-off (sym (c₁ .fits2 .ensures) ∙ c .if2 .left))
+    rw (sym (c₂ .before .valid-row .ensures) ∙ not-false _ (c₂ .if1 .left)) (wrote-off (sym (c₁ .has-room .ensures) ∙ c .if2 .left))
 
 pub write-row-spec : {M : Type 1} → statement M
-write-row-spec = tie.close (tie.spec valid-row-requires returns fits-requires put-any-row-requires same-length returns-2 returns-3)
+write-row-spec = tie.close (tie.spec valid-row-requires returns has-room-requires put-any-row-requires same-length returns-2 returns-3)

@@ -17,7 +17,7 @@ use Rattle.text.specs.Laws.Combine.{seq-laws, as-laws, relay, maybe-laws}
 use Rattle.text.specs.Laws.Numbers.{digits-laws}
 use Rattle.text.specs.Laws.Sizes.{size, append-size, digits-size, spell-size, name-size}
 use Rattle.runway.specs.declared.RunwayFound.{RunwayFound}
-use Rattle.runway.specs.Held.{HeldRunway, noRunway}
+use Rattle.runway.specs.Code.Held.{HeldRunway, noRunway}
 use Rattle.runway.specs.Runway.{sideName, isSide, sideOf, runwayPieces, readRunway}
 
 abbrev sideByte : ℕ → ℕ

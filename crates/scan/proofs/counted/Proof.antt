@@ -7,12 +7,12 @@ use Rattle.text.specs.Names.{inClass, readCount}
 use Rattle.text.specs.Laws.Passed.{count-stop, count-on, count-off}
 use Rattle.scan.proofs.Steps.{count-none}
 use lib.ListN.{length, drop}
-use Rattle.text.specs.Held.{fits}
+use Rattle.text.specs.Code.Held.{isGot}
 use Rattle.scan.proofs.counted.Statement.{statement}
 use Rattle.scan.proofs.counted.Tie as tie
 
 abbrev Inv-loop : tie.InvT-loop
-Inv-loop s i class n j₀ left₀ j left = (j ≤ length s) × (fits (readCount (inClass class) left (drop j s)) ≡ fits (readCount (inClass class) n (drop i s)))
+Inv-loop s i class n j₀ left₀ j left = (j ≤ length s) × (isGot (readCount (inClass class) left (drop j s)) ≡ isGot (readCount (inClass class) n (drop i s)))
 
 abbrev μ-loop : tie.MeasureT-loop
 μ-loop s i class n j₀ left₀ j left = left
@@ -21,7 +21,7 @@ place-requires : tie.Need-place-requires Inv-loop μ-loop
 place-requires c κs = search needs
 
 loop-holds : tie.Need-loop-holds Inv-loop μ-loop
-loop-holds c = (c .place .ensures .within, ap (λ (k : List ℕ). fits (readCount (inClass (c .before .before .args .class)) (c .before .before .args .n) k)) (c .place .ensures .left))
+loop-holds c = (c .place .ensures .within, ap (λ (k : List ℕ). isGot (readCount (inClass (c .before .before .args .class)) (c .before .before .args .n) k)) (c .place .ensures .left))
 
 returns : tie.Need-returns Inv-loop μ-loop
 returns c = let a = c .before .before .before .before .before .args in let l = c .before .before .loop in sym (count-stop (inClass (a .class)) (a .s .now) (l .j) (l .left) (search needs) (search needs)) ∙ l .inv .1
@@ -48,7 +48,7 @@ returns-2 : tie.Need-returns-2 Inv-loop μ-loop
 returns-2 c = let a = c .before .before .before .before .before .before .before .before .args in let l = c .before .before .before .before .before .loop in sym (count-off (inClass (a .class)) (a .s .now) (l .j) (l .left) (search needs) (search needs) (sym (c .before .in-class .ensures) ∙ c .if2 .left)) ∙ l .inv .1
 
 returns-3 : tie.Need-returns-3 Inv-loop μ-loop
-returns-3 c = let a = c .before .before .before .before .args in let l = c .before .loop in let z : l .left ≡ 0 = omega arith in sym (count-none (inClass (a .class)) (drop (l .j) (a .s .now))) ∙ ap (λ (k : ℕ). fits (readCount (inClass (a .class)) k (drop (l .j) (a .s .now)))) (sym z) ∙ l .inv .1
+returns-3 c = let a = c .before .before .before .before .args in let l = c .before .loop in let z : l .left ≡ 0 = omega arith in sym (count-none (inClass (a .class)) (drop (l .j) (a .s .now))) ∙ ap (λ (k : ℕ). isGot (readCount (inClass (a .class)) k (drop (l .j) (a .s .now)))) (sym z) ∙ l .inv .1
 
 pub counted-spec : {M : Type 1} → statement M
 counted-spec =

@@ -3,8 +3,7 @@ use Prim.Native.Nat.{_-_, _≤_}
 use mathlib.Core.Path.{_≡_, sym, _∙_, ap}
 use native.Mathlib.Omega.{arith}
 use lib.ListN.{length, drop}
-use Rattle.text.specs.Names.{past}
-use Rattle.text.specs.Held.{isSpace}
+use Rattle.text.specs.Names.{past, isSpace}
 use Rattle.scan.proofs.Eights.{spaces-end, spaces-on}
 use Rattle.text.specs.Laws.Passed.{past-block}
 use Rattle.scan.proofs.Steps.{skip-past}

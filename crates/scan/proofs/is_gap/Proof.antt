@@ -6,7 +6,7 @@ use mathlib.Core.Logic.{⊎-elim}
 use lib.ListN.{take, drop, getD, length-drop}
 use borrow.Author.Tests.{eq-eqb, ne-eqb}
 use Rattle.text.specs.Choice.{_and_, all}
-use Rattle.text.specs.Held.{isSpace}
+use Rattle.text.specs.Names.{isSpace}
 use Rattle.text.specs.Laws.Base.{and-none, and-true}
 use Rattle.text.specs.Laws.Passed.{block-more, block-out, block-in}
 use borrow.Author.Needs.{needs}

@@ -1,5 +1,6 @@
 use Rattle.text.specs.Laws.Tests.{tests}
-use Rattle.surface.specs.Assess.{assessing}
+use mathlib.Core.Path.{sym, ap, _∙_}
+use Rattle.surface.specs.Assess.{assessing, taken}
 use borrow.Author.Needs.{needs}
 use Rattle.surface.proofs.assess.Statement.{statement}
 use Rattle.surface.proofs.assess.Tie as tie
@@ -12,14 +13,18 @@ contradictory-requires c κs = search needs
 
 returns : tie.Need-returns
 unfolding assessing
-returns c = search tests
+returns c = rw (sym (c .before .before .before .in-range .ensures) ∙ c .before .before .if1 .taken, sym (c .before .contradictory .ensures) ∙ c .if2 .taken)
 
 assessed-requires : tie.Need-assessed-requires
 assessed-requires c κs = search needs
 
 returns-2 : tie.Need-returns-2
 unfolding assessing
-returns-2 c = simp (← (c .assessed .ensures)) (search tests)
+returns-2 c =
+    let c₁ = c .before in
+    let c₂ = c₁ .before in
+    rw (sym (c₂ .before .before .in-range .ensures) ∙ c₂ .before .if1 .taken, sym (c₂ .contradictory .ensures) ∙ c₁ .if2 .left)
+    (ap taken (c .assessed .ensures))
 
 returns-3 : tie.Need-returns-3
 unfolding assessing

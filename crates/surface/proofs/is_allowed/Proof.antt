@@ -4,13 +4,13 @@ use mathlib.Core.Path.{_≡_, refl, sym, _∙_}
 use native.Mathlib.Omega.{arith}
 use mathlib.Core.Bool.{true, false}
 use lib.ListN.{length, drop, drop-of-length-le}
-use Rattle.surface.specs.Table1.{table1, firstLine, allows, isAllowed}
+use Rattle.surface.specs.Table1.{table1, firstFitting, allows, isAllowed}
 use Rattle.surface.proofs.Lines.{here, further, nowhere}
 use Rattle.surface.proofs.is_allowed.Statement.{statement}
 use Rattle.surface.proofs.is_allowed.Tie as tie
 
 abbrev Inv-loop : tie.InvT-loop
-Inv-loop t i₀ i = (i ≤ length table1) × (firstLine (λ l. allows l t) (λ _. true) false (drop i table1) ≡ isAllowed t)
+Inv-loop t i₀ i = (i ≤ length table1) × (firstFitting (λ l. allows l t) (λ _. true) false (drop i table1) ≡ isAllowed t)
 
 abbrev μ-loop : tie.MeasureT-loop
 μ-loop t i₀ i = length table1 - i

@@ -6,9 +6,9 @@ use mathlib.Core.Bool.{Bool, true, false, not}
 use lib.Dec.{eqb}
 use Rattle.text.specs.Choice.{_and_}
 use Rattle.surface.specs.declared.Observation.{Observation}
-use Rattle.surface.specs.declared.Line.{Line}
+use Rattle.surface.specs.declared.Entry.{Entry}
 use Rattle.surface.specs.Descriptions.{standingWater}
-use Rattle.surface.specs.Table1.{table1, isShallow, isCold, holds, fits}
+use Rattle.surface.specs.Table1.{table1, isShallow, isCold, holds, isFor}
 use Rattle.surface.specs.Assess.{isKind}
 use Rattle.surface.specs.Laws.Kinds.{Each, every-kind}
 
@@ -18,9 +18,9 @@ counted true n = suc n
 counted false n = n
 
 -- how many of the lines fit
-unfoldable pub howMany : List Line → ℕ → Observation → ℕ
+unfoldable pub howMany : List Entry → ℕ → Observation → ℕ
 howMany [] k o = 0
-howMany (l ∷ ls) k o = counted (fits l k o) (howMany ls k o)
+howMany (l ∷ ls) k o = counted (isFor l k o) (howMany ls k o)
 
 -- STANDING WATER to 3 mm, which is reported as WET and has no line
 abbrev pub isThin : ℕ → Observation → Bool
@@ -39,7 +39,7 @@ abbrev HasOne : Observation → ℕ → Type 0
 HasOne o k = isThin k o ≡ false → howMany table1 k o ≡ 1
 
 each-has-one : (o : Observation) → Each (HasOne o)
-unfolding _and_ table1 holds fits howMany
+unfolding _and_ table1 holds isFor howMany
 each-has-one o =
     record {
       of-compacted-snow = λ _. one-of-two (isCold (o .temperature));

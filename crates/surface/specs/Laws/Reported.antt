@@ -1,7 +1,7 @@
 -- What the assessor reports is a third that a row may hold, and its code agrees with Table 1.
 use Prim.Native.Nat.{ℕ, _≤_}
 use mathlib.Core.Path.{_≡_, refl, sym, _∙_}
-use mathlib.Core.Bool.{Bool, true, false}
+use mathlib.Core.Bool.{not, Bool, true, false}
 use mathlib.Core.List.{List, [], _∷_}
 use lib.Dec.{eqb, leb, ltb}
 use borrow.Author.Tests.{leb-true, leb-false, le-leb, eqb-true, eqb-false, eq-eqb, ltb-false, lt-ltb, not-true}
@@ -10,13 +10,14 @@ use Rattle.text.specs.Choice.{pick, _and_, all}
 use Rattle.text.specs.Laws.Base.{and-1, and-2, and-i}
 use Rattle.surface.specs.declared.Third.{Third}
 use Rattle.surface.specs.declared.Observation.{Observation}
-use Rattle.surface.specs.declared.Line.{Line}
+use Rattle.surface.specs.declared.Entry.{Entry}
 use Rattle.surface.specs.declared.Condition.{Condition}
 use Rattle.surface.specs.declared.Condition.the-variants.{Always, NotSlippery, Slippery, Shallow, Deeper, Cold, Milder}
 use Rattle.surface.specs.Descriptions.{notReported, standingWater, wet, wetSnowOnIce, dry, isContaminant, isDeep}
 use Rattle.surface.specs.Third.{third, blankThird, isCode, isCoverage, validCoverage, leastDepth, isReported, validDepth, validThird, greatestDepth}
-use Rattle.surface.specs.Table1.{table1, code, kind, condition, isShallow, holds, fits, firstLine, canHold, allows, agrees}
-use Rattle.surface.specs.Assess.{isKind, inRange, coveredDry, contradictory, coverageFor, uncovered, isThinWater, reportedKind, reportedDepth, covered, assessed, assessing, leastCover, taken, refused, outOfRange, contradiction}
+use Rattle.surface.specs.Table1.{table1, code, kind, condition, isShallow, holds, isFor, firstFitting, canHold, allows, agrees}
+use Rattle.surface.specs.Assess.{isKind, inRange, coveredDry, contradictory, coverageFor, uncovered, isThinWater, reportedKind, reportedDepth, covered, assessed, assessing, leastCover, taken, refused}
+use Rattle.text.specs.Refusals.{outOfRange, contradiction}
 use Rattle.surface.specs.Laws.OneLine.{counted, howMany, isThin, one-line}
 
 either : (t : Bool) {b : Bool} → b ≡ true → pick t true b ≡ true
@@ -88,7 +89,7 @@ asksDeep Deeper deep = deep
 asksDeep Cold deep = true
 asksDeep Milder deep = true
 
-unfoldable isSound : Line → Bool
+unfoldable isSound : Entry → Bool
 isSound l = asksDeep (condition l) (isDeep (kind l)) and isCode (code l)
 
 all-sound : all isSound table1 ≡ true
@@ -107,8 +108,8 @@ still Cold k o s h = refl
 still Milder k o s h = refl
 
 -- the line that gave the code allows it
-allowed-there : (l : Line) (k coverage : ℕ) (o : Observation) → isSound l ≡ true → fits l k o ≡ true → allows l (third (code l) coverage (reportedDepth k (o .depth)) k) ≡ true
-unfolding isSound fits allows
+allowed-there : (l : Entry) (k coverage : ℕ) (o : Observation) → isSound l ≡ true → isFor l k o ≡ true → allows l (third (code l) coverage (reportedDepth k (o .depth)) k) ≡ true
+unfolding isSound isFor allows
 allowed-there l k coverage o s f =
     let same = eqb-true (kind l) k (and-1 _ _ f) in
     let sound = rw same at (and-1 _ _ s) in
@@ -116,32 +117,32 @@ allowed-there l k coverage o s f =
 
 module _ (k : ℕ) (o : Observation) where
   -- the code that some lines give
-  abbrev given : List Line → ℕ
-  given ls = firstLine (λ l. fits l k o) code 0 ls
+  abbrev given : List Entry → ℕ
+  given ls = firstFitting (λ l. isFor l k o) code 0 ls
 
   -- the third that is reported with a code, and whether some lines allow it
   abbrev reported : ℕ → ℕ → Third
   reported coverage c = third c coverage (reportedDepth k (o .depth)) k
 
-  abbrev allowedIn : List Line → Third → Bool
-  allowedIn ls t = firstLine (λ l. allows l t) (λ _. true) false ls
+  abbrev allowedIn : List Entry → Third → Bool
+  allowedIn ls t = firstFitting (λ l. allows l t) (λ _. true) false ls
 
-  given-allowed : (coverage : ℕ) (ls : List Line) → all isSound ls ≡ true → howMany ls k o ≡ 1 → allowedIn ls (reported coverage (given ls)) ≡ true
-  unfolding firstLine howMany
+  given-allowed : (coverage : ℕ) (ls : List Entry) → all isSound ls ≡ true → howMany ls k o ≡ 1 → allowedIn ls (reported coverage (given ls)) ≡ true
+  unfolding firstFitting howMany
   given-allowed coverage [] s one = absurd (omega arith)
-  given-allowed coverage (l ∷ ls) s one = go (fits l k o) refl one (given-allowed coverage ls (and-2 _ _ s))
+  given-allowed coverage (l ∷ ls) s one = go (isFor l k o) refl one (given-allowed coverage ls (and-2 _ _ s))
     where
       now : Bool → Third
       now t = reported coverage (pick t (code l) (given ls))
 
-      go : (t : Bool) → fits l k o ≡ t → counted t (howMany ls k o) ≡ 1 → (howMany ls k o ≡ 1 → allowedIn ls (now false) ≡ true) → pick (allows l (now t)) true (allowedIn ls (now t)) ≡ true
+      go : (t : Bool) → isFor l k o ≡ t → counted t (howMany ls k o) ≡ 1 → (howMany ls k o ≡ 1 → allowedIn ls (now false) ≡ true) → pick (allows l (now t)) true (allowedIn ls (now t)) ≡ true
       go true f one later = rw (allowed-there l k coverage o (and-1 _ _ s) f)
       go false f one later = either (allows l (now false)) (later one)
 
-  given-code : (ls : List Line) → all isSound ls ≡ true → isCode (given ls) ≡ true
-  unfolding firstLine isSound
+  given-code : (ls : List Entry) → all isSound ls ≡ true → isCode (given ls) ≡ true
+  unfolding firstFitting isSound
   given-code [] s = refl
-  given-code (l ∷ ls) s = go (fits l k o) (and-2 _ _ (and-1 _ _ s)) (given-code ls (and-2 _ _ s))
+  given-code (l ∷ ls) s = go (isFor l k o) (and-2 _ _ (and-1 _ _ s)) (given-code ls (and-2 _ _ s))
     where
       go : (t : Bool) → isCode (code l) ≡ true → isCode (given ls) ≡ true → isCode (pick t (code l) (given ls)) ≡ true
       go true here later = here
@@ -203,7 +204,7 @@ covered-right o k r d =
     }
 
 uncovered-right : (t : Bool) → Right (third 6 notReported notReported (pick t dry notReported))
-unfolding _and_ validCoverage validDepth validThird table1 canHold allows firstLine agrees
+unfolding _and_ validCoverage validDepth validThird table1 canHold allows firstFitting agrees
 uncovered-right true = record { valid = refl; agreeing = refl }
 uncovered-right false = record { valid = refl; agreeing = refl }
 
@@ -227,7 +228,7 @@ pub right : (o : Observation) → Right (assessing o .third)
 unfolding assessing
 right o = go (inRange o) refl (contradictory o) refl
   where
-    go : (t : Bool) → inRange o ≡ t → (u : Bool) → contradictory o ≡ u → Right ((pick t (pick u (refused contradiction) (taken (assessed o))) (refused outOfRange)) .third)
+    go : (t : Bool) → inRange o ≡ t → (u : Bool) → contradictory o ≡ u → Right ((pick t (pick (not u) (taken (assessed o)) (refused contradiction)) (refused outOfRange)) .third)
     go true r true n = blank-right
     go true r false n = assessed-right o r n
     go false r u n = blank-right

@@ -7,7 +7,7 @@ use lib.ListN.{length, drop}
 use borrow.Author.Needs.{needs}
 use borrow.Author.Tests.{eq-eqb, ne-eqb}
 use Rattle.text.specs.Names.{past}
-use Rattle.text.specs.Held.{isUnfed}
+use Rattle.text.specs.Code.Held.{isUnfed}
 use Rattle.text.specs.Laws.Passed.{past-stop, past-on, past-off, past-block}
 use Rattle.text.proofs.unfed_size.Statement.{statement}
 use Rattle.text.proofs.unfed_size.Tie as tie

@@ -7,7 +7,7 @@ use lib.Dec.{lit<, lit≤}
 use native.Mathlib.Omega.{arith}
 use Rattle.text.specs.Choice.{pick}
 use Rattle.text.specs.Read.{Got, misfit, got, whole}
-use Rattle.text.specs.Out.{Out, refuse, taken, next, fit, line, atEnd}
+use Rattle.text.specs.Out.{Out, refuse, taken, next, fit, readLine, atEnd}
 
 -- inversion of what is taken
 pub no-refuse : {A C : Type 0} {n : ℕ} {a : A} → refuse n ≡ taken a → C
@@ -48,7 +48,7 @@ pub fit-numbered : {A B : Type 0} {n : ℕ} (g : Got A) (f : A → Out B) → (0
 fit-numbered misfit f h k = h
 fit-numbered (got a r) f h k = k a
 
-pub line-numbered : {A B : Type 0} {n : ℕ} (f : List ℕ → Got A) (ls : List (List ℕ)) (k : A → List (List ℕ) → Out B) → (0 < n) × (n ≤ 12) → ((a : A) (ls : List (List ℕ)) → Numbered (k a ls)) → Numbered (line n f ls k)
+pub line-numbered : {A B : Type 0} {n : ℕ} (f : List ℕ → Got A) (ls : List (List ℕ)) (k : A → List (List ℕ) → Out B) → (0 < n) × (n ≤ 12) → ((a : A) (ls : List (List ℕ)) → Numbered (k a ls)) → Numbered (readLine n f ls k)
 line-numbered f [] k h i = h
 line-numbered f (l ∷ ls) k h i = fit-numbered (whole (f l)) (λ a. k a ls) h (λ a. i a ls)
 

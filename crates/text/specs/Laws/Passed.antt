@@ -11,7 +11,7 @@ use borrow.Author.Tests.{le-leb, lt-leb, leb-true}
 use Rattle.text.specs.Read.{Got, misfit, got, andThen}
 use Rattle.text.specs.Names.{readCount, past}
 use Rattle.text.specs.Choice.{_and_, all}
-use Rattle.text.specs.Held.{fits, startsWith}
+use Rattle.text.specs.Code.Held.{isGot, startsWith}
 use Rattle.text.specs.Laws.Arrays.{all-last}
 use Rattle.text.specs.Laws.Base.{and-1, and-2}
 
@@ -30,23 +30,23 @@ module _ (p : ℕ → Bool) (m : List ℕ) (j : ℕ) where
   past-off h e = rw (drop-cons m j 0 h, e)
 
   module _ (k : ℕ) where
-    pub count-stop : 0 < k → length m ≤ j → fits (readCount p k (drop j m)) ≡ false
+    pub count-stop : 0 < k → length m ≤ j → isGot (readCount p k (drop j m)) ≡ false
     unfolding readCount
     count-stop z h = let e : k ≡ suc (k - 1) = omega arith in rw (e, drop-of-length-le m h)
 
-    pub count-off : 0 < k → j < length m → p (getD m j 0) ≡ false → fits (readCount p k (drop j m)) ≡ false
+    pub count-off : 0 < k → j < length m → p (getD m j 0) ≡ false → isGot (readCount p k (drop j m)) ≡ false
     unfolding readCount
     count-off z h q = let e : k ≡ suc (k - 1) = omega arith in rw (e, drop-cons m j 0 h, q)
 
-    pub count-on : 0 < k → j < length m → p (getD m j 0) ≡ true → fits (readCount p k (drop j m)) ≡ fits (readCount p (k - 1) (drop (j + 1) m))
+    pub count-on : 0 < k → j < length m → p (getD m j 0) ≡ true → isGot (readCount p k (drop j m)) ≡ isGot (readCount p (k - 1) (drop (j + 1) m))
     unfolding readCount
     count-on z h q = go (k - 1) (omega arith)
       where
-        again : (g : Got (List ℕ)) → fits (andThen {A = ℕ × List ℕ} (andThen g (λ b r. got (getD m j 0, b) r)) (λ q r. got (q .0 ∷ q .1) r)) ≡ fits g
+        again : (g : Got (List ℕ)) → isGot (andThen {A = ℕ × List ℕ} (andThen g (λ b r. got (getD m j 0, b) r)) (λ q r. got (q .0 ∷ q .1) r)) ≡ isGot g
         again misfit = refl
         again (got b r) = refl
 
-        go : (n : ℕ) → k ≡ suc n → fits (readCount p k (drop j m)) ≡ fits (readCount p n (drop (j + 1) m))
+        go : (n : ℕ) → k ≡ suc n → isGot (readCount p k (drop j m)) ≡ isGot (readCount p n (drop (j + 1) m))
         go n e = rw (e, add-one, drop-cons m j 0 h, q) (again (readCount p n (drop (suc j) m)))
 
 -- one byte more of a block

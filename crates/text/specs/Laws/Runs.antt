@@ -7,7 +7,7 @@ use lib.ListN.{length, take, drop}
 use lib.Seq.{take-all}
 use Rattle.text.specs.Choice.{pick, all, headIs}
 use Rattle.text.specs.Read.{got, guard, andThen}
-use Rattle.text.specs.Held.{Reached, fits}
+use Rattle.text.specs.Code.Held.{Reached, isGot}
 use Rattle.text.specs.Names.{run, past, readCount}
 use Rattle.text.specs.Laws.Arrays.{take-front, drop-front}
 use Rattle.text.specs.Laws.Base.{and-i}
@@ -44,12 +44,12 @@ module _ (p : ℕ → Bool) where
   run-all f h = ap (all p) (sym (take-all (length (run p f)) f h) ∙ run-front f) ∙ run-in f
 
   -- one byte of the class stands there
-  pub one-counted : (f : List ℕ) → fits (readCount p 1 f) ≡ headIs p f
+  pub one-counted : (f : List ℕ) → isGot (readCount p 1 f) ≡ headIs p f
   unfolding readCount
   one-counted [] = refl
   one-counted (x ∷ f) = go (p x)
     where
-      go : (t : Bool) → fits (andThen {A = ℕ × List ℕ} (andThen (guard t (got x f)) (λ a k. got (a, []) k)) (λ q r. got (q .0 ∷ q .1) r)) ≡ t
+      go : (t : Bool) → isGot (andThen {A = ℕ × List ℕ} (andThen (guard t (got x f)) (λ a k. got (a, []) k)) (λ q r. got (q .0 ∷ q .1) r)) ≡ t
       go true = refl
       go false = refl
 

@@ -4,8 +4,7 @@ use mathlib.Core.Path.{_≡_, refl}
 use mathlib.Core.List.{List, [], _∷_, _++_}
 use mathlib.Core.Bool.{Bool, true, false}
 use lib.Dec.{eqb}
-use Rattle.text.specs.Read.{Got, misfit, got, guard, orElse, andThen, after, readText, readAfter}
-use Rattle.text.specs.Held.{readWord}
+use Rattle.text.specs.Read.{Got, misfit, got, guard, orElse, andThen, after, readText, readAfter, readWord}
 use Rattle.text.specs.Texts.{Texts, readFirst, behind}
 
 text-cut : (p q m : List ℕ) → readText (p ++ q) m ≡ readAfter p (readText q) m

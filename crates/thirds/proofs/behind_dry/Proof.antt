@@ -1,7 +1,7 @@
 use borrow.Author.Tests.{not-true, not-false}
 use Rattle.thirds.proofs.Descriptions.{first-on, first-off}
 use Rattle.text.specs.Piece.{bytes}
-use Rattle.thirds.specs.Parts.{snows}
+use Rattle.thirds.specs.Code.Parts.{snows}
 use Rattle.surface.specs.Descriptions.{drySnow, drySnowOnCompactedSnow, drySnowOnIce}
 use borrow.Author.Needs.{needs}
 use Rattle.thirds.proofs.behind_dry.Statement.{statement}

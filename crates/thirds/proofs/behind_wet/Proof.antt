@@ -2,7 +2,7 @@ use mathlib.Core.List.{[], _∷_, _++_}
 use borrow.Author.Tests.{not-true, not-false}
 use Rattle.thirds.proofs.Descriptions.{first-or, first-on, first-off}
 use Rattle.text.specs.Piece.{bytes}
-use Rattle.thirds.specs.Parts.{snows}
+use Rattle.thirds.specs.Code.Parts.{snows}
 use Rattle.surface.specs.Descriptions.{wetIce, wetSnow, wetSnowOnCompactedSnow, wetSnowOnIce}
 use borrow.Author.Needs.{needs}
 use Rattle.thirds.proofs.behind_wet.Statement.{statement}

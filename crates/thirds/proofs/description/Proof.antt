@@ -2,7 +2,7 @@ use mathlib.Core.Path.{refl}
 use mathlib.Core.List.{[], _∷_}
 use Rattle.thirds.proofs.Descriptions.{first-one, first-or, by-byte, by-W, by-other, by-end}
 use Rattle.text.specs.Piece.{bytes}
-use Rattle.thirds.specs.Parts.{wets}
+use Rattle.thirds.specs.Code.Parts.{wets}
 use Rattle.surface.specs.Descriptions.{notReported, compactedSnow, frost, ice, slush, standingWater, waterOnCompactedSnow}
 use borrow.Author.Needs.{needs}
 use Rattle.thirds.proofs.description.Statement.{statement}

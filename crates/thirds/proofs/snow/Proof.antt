@@ -1,7 +1,7 @@
 use borrow.Author.Tests.{not-true, not-false}
 use Rattle.thirds.proofs.Descriptions.{longer-none, longer-on, longer-off}
 use Rattle.text.specs.Piece.{bytes}
-use Rattle.thirds.specs.Parts.{onTop}
+use Rattle.thirds.specs.Code.Parts.{onTop}
 use borrow.Author.Needs.{needs}
 use Rattle.thirds.proofs.snow.Statement.{statement}
 use Rattle.thirds.proofs.snow.Tie as tie

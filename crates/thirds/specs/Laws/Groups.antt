@@ -8,10 +8,9 @@ use borrow.Author.Tests.{eqb-true, eqb-false, ne-eqb, leb-true, le-leb}
 use native.Mathlib.Omega.{arith}
 use Rattle.text.specs.Choice.{pick, _and_, headIs, all, member}
 use Rattle.text.specs.Piece.{Piece, Typed, spell, bytes, words}
-use Rattle.text.specs.Read.{Got, misfit, got, skip, readText}
+use Rattle.text.specs.Read.{Got, misfit, got, skip, readText, readWord}
 use Rattle.text.specs.Numbers.{isDigit, number}
 use Rattle.text.specs.Names.{isLetter, isName, readName}
-use Rattle.text.specs.Held.{readWord}
 use Rattle.text.specs.Laws.Base.{Laws, Head, Any, inline, text-laws, true-false, head-not, not-space, head-wide, spaceNext, below, below-at}
 use Rattle.text.specs.Laws.Combine.{seq-laws, as-laws, after-laws, gap-laws, Gap, if-laws, or-laws, relay, revalid, loosen}
 use Rattle.text.specs.Laws.Numbers.{digits-laws, number-laws}

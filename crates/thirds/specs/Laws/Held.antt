@@ -8,7 +8,7 @@ use Rattle.text.specs.Choice.{pick}
 use Rattle.text.specs.Read.{Got, misfit, got}
 use Rattle.text.specs.Laws.Held.{Told, told-one}
 use Rattle.thirds.specs.Groups.{Three}
-use Rattle.thirds.specs.Held.{HeldThree, trio, noTrio}
+use Rattle.thirds.specs.Code.Held.{HeldThree, trio, noTrio}
 use Rattle.thirds.specs.declared.Trio.{Trio}
 
 module _ {m : List ℕ} {g : Got Three} {r : Trio} (h : HeldThree m g r) where

@@ -8,13 +8,13 @@ use Rattle.text.specs.Laws.Put.{more}
 use Rattle.text.specs.Laws.Tests.{tests}
 use Rattle.items.specs.Awareness.{awarenessPieces}
 use Rattle.items.proofs.Steps.{outside}
-use Rattle.wording.proofs.Line.{lineText, line-next, line-used, line-left}
+use Rattle.wording.proofs.Line.{awarenessText, line-next, line-used, line-left}
 use borrow.Author.Needs.{needs}
 use Rattle.wording.proofs.put_awareness.Statement.{statement}
 use Rattle.wording.proofs.put_awareness.Tie as tie
 
 abbrev Inv-loop : tie.InvT-loop
-Inv-loop out₀ at count items behind₀ k₀ out behind k = (k ≤ 32) × (k ≤ count) × (length out ≡ length out₀) × Put at (lineText (take k items)) out₀ out behind
+Inv-loop out₀ at count items behind₀ k₀ out behind k = (k ≤ 32) × (k ≤ count) × (length out ≡ length out₀) × Put at (awarenessText (take k items)) out₀ out behind
 
 abbrev μ-loop : tie.MeasureT-loop
 μ-loop out₀ at count items behind₀ k₀ out behind k = 32 - k

@@ -8,7 +8,7 @@ use lib.Dec.{eqb}
 use Rattle.text.specs.Choice.{pick}
 use Rattle.text.specs.Piece.{bytes}
 use Rattle.text.specs.Read.{Got, misfit, got, guard, orElse}
-use Rattle.text.specs.Held.{Held}
+use Rattle.text.specs.Code.Held.{Held}
 use Rattle.text.specs.declared.Found.{Found}
 use Rattle.thirds.specs.Groups.{Three}
 use Rattle.thirds.specs.declared.Trio.{Trio}

@@ -6,8 +6,8 @@ use mathlib.Core.Bool.{Bool, true, false}
 use lib.Dec.{eqb}
 use lib.ListN.{drop}
 use Rattle.text.specs.Choice.{pick}
-use Rattle.text.specs.Lines.{lines, linesSize, closed, opened}
-use Rattle.rowtext.specs.Reading.{wholeRow, answer}
+use Rattle.text.specs.Lines.{lines, linesSize, closed, lineText}
+use Rattle.rowtext.specs.Reading.{wholeRow, rowAnswer}
 use Rattle.body.specs.declared.Rows.{Rows}
 use Rattle.body.specs.declared.RowLine.{RowLine}
 use Rattle.body.specs.declared.RowsRead.{RowsRead}
@@ -16,7 +16,7 @@ use Rattle.body.specs.Rows.{mostRows, rowsOf, makeRows, Block, block, re
 
 -- a line in a row's place
 unfoldable pub rowLine : List ℕ → RowLine
-rowLine l = record { refusal = answer (wholeRow (opened l)) .refusal; row = answer (wholeRow (opened l)) .row; closed = closed l }
+rowLine l = record { refusal = rowAnswer (wholeRow (lineText l)) .refusal; row = rowAnswer (wholeRow (lineText l)) .row; closed = closed l }
 
 -- up to eight rows, zeros behind them
 pub record Kept (r : Rows) : Type 0 where
@@ -31,11 +31,11 @@ outcome m n r c at = pick (eqb n 0) (taken (block (rowsOf r) (pick c finished (m
 abbrev pub noRows : ℕ → RowsRead
 noRows n = record { refusal = n; rows = makeRows []; closed = false; next = 0 }
 
--- the answer of the loop over the lines: the rows so far, or the refusal that left it
+-- the rowAnswer of the loop over the lines: the rows so far, or the refusal that left it
 unfoldable pub rowsAnswer : ℕ → Rows → Bool → ℕ → RowsRead
 rowsAnswer n r c at = pick (eqb n 0) (pick c (record { refusal = 0; rows = r; closed = true; next = 0 }) (record { refusal = 0; rows = r; closed = false; next = at })) (noRows n)
 
--- the answer r is the reading of the rows at the front of m; behind the empty line that ends n rows there are n + 1 lines
+-- the rowAnswer r is the reading of the rows at the front of m; behind the empty line that ends n rows there are n + 1 lines
 pub record RowsHeld (m : List ℕ) (r : RowsRead) : Type 0 where
   pub kept : Kept (r .rows)
   pub says : readRows mostRows [] (lines m) ≡ outcome m (r .refusal) (r .rows) (r .closed) (r .next)

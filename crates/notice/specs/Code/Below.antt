@@ -5,7 +5,7 @@ use Rattle.body.specs.Rows.{mostRows, readRows}
 use Rattle.remarks.specs.Remarks.{readRemarks}
 use Rattle.front.specs.declared.Front.{Front}
 use Rattle.record.specs.declared.Record.{Record}
-use Rattle.front.specs.Front.{headingOf}
+use Rattle.front.specs.Code.Front.{headingOf}
 use Rattle.text.specs.Out.{Out, next}
 use Rattle.record.specs.Record.{makeRecord}
 use Rattle.notice.specs.Reading.{agreeing}

@@ -10,12 +10,12 @@ abbrev pub longer : List ℕ → Texts → ℕ → Texts
 longer p ts v = behind p (ts ++ (([], v) ∷ []))
 
 -- what snow lies on, with the values of snow on top of it
-abbrev pub under : ℕ → ℕ → Texts
-under compacted ice = (bytes "COMPACTED SNOW", compacted) ∷ (bytes "ICE", ice) ∷ []
+abbrev pub underSnow : ℕ → ℕ → Texts
+underSnow compacted ice = (bytes "COMPACTED SNOW", compacted) ∷ (bytes "ICE", ice) ∷ []
 
 -- the same behind ON TOP OF
 abbrev pub onTop : ℕ → ℕ → Texts
-onTop compacted ice = behind (bytes " ON TOP OF ") (under compacted ice)
+onTop compacted ice = behind (bytes " ON TOP OF ") (underSnow compacted ice)
 
 -- SNOW on top of something, and then alone
 abbrev pub snows : ℕ → ℕ → ℕ → Texts

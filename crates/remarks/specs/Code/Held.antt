@@ -5,7 +5,7 @@ use mathlib.Core.Bool.{Bool}
 use lib.Dec.{eqb}
 use lib.ListN.{length, take}
 use Rattle.text.specs.Choice.{pick}
-use Rattle.text.specs.Lines.{lineSize, lineStep, closed, opened}
+use Rattle.text.specs.Lines.{lineSize, lineStep, closed, lineText}
 use Rattle.items.specs.Language.{validLanguage}
 use Rattle.awareness.specs.declared.ItemsRead.{ItemsRead}
 use Rattle.text.specs.Out.{Out, refuse, taken}
@@ -13,6 +13,7 @@ use Rattle.remarks.specs.Remarks.{Remarks}
 use Rattle.items.specs.Parts.{makeItems, makeLanguage}
 use Rattle.remarks.specs.declared.RemarksRead.{RemarksRead}
 use Rattle.remarks.specs.declared.Tail.{Tail}
+use Rattle.text.specs.Refusals.{outline, wrongItems, wrongLanguage}
 
 -- what stands below the rows; a refused reading is blank
 abbrev pub noRemarks : ℕ → RemarksRead
@@ -29,23 +30,23 @@ noTail n = record { refusal = n; size = 0 }
 
 -- behind the line that `)` closes: "bytes after the end"
 unfoldable pub ending : ℕ → ℕ → Tail
-ending size left = pick (eqb left 0) (record { refusal = 0; size = size }) (noTail 4)
+ending size left = pick (eqb left 0) (record { refusal = 0; size = size }) (noTail outline)
 
 -- the awareness line is the last: 8 where it is "empty before `)`"
 unfoldable pub lastItems : ℕ → ℕ → Tail
-lastItems count left = pick (eqb count 0) (noTail 8) (ending 0 left)
+lastItems count left = pick (eqb count 0) (noTail wrongItems) (ending 0 left)
 
 -- plain language that `)` closes: 9 where it does not fit
 unfoldable pub lastLanguage : List ℕ → ℕ → Tail
-lastLanguage l left = pick (validLanguage l) (ending (length l) left) (noTail 9)
+lastLanguage l left = pick (validLanguage l) (ending (length l) left) (noTail wrongLanguage)
 
 -- the line of plain language: 4 where it is missing, and "at once" where it lacks `)`
 unfoldable pub nextLanguage : List ℕ → Tail
-nextLanguage m = pick (closed (take (lineSize m) m)) (lastLanguage (opened (take (lineSize m) m)) (length m - lineStep m)) (noTail 4)
+nextLanguage m = pick (closed (take (lineSize m) m)) (lastLanguage (lineText (take (lineSize m) m)) (length m - lineStep m)) (noTail outline)
 
 -- the awareness line: whether it fits, how many items it has, whether `)` closes it, and what is left behind it
 unfoldable pub itemsStep : Bool → ℕ → Bool → List ℕ → Tail
-itemsStep fits count c rest = pick fits (pick c (lastItems count (length rest)) (nextLanguage rest)) (noTail 8)
+itemsStep fits count c rest = pick fits (pick c (lastItems count (length rest)) (nextLanguage rest)) (noTail wrongItems)
 
 -- the items, and the plain language at the front of what is left behind them
 unfoldable pub joined : ItemsRead → Tail → List ℕ → RemarksRead

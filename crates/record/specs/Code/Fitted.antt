@@ -7,7 +7,7 @@ use Rattle.body.specs.Rows.{rowsOf}
 use Rattle.remarks.specs.declared.RemarksRead.{RemarksRead}
 use Rattle.front.specs.declared.Front.{Front}
 use Rattle.record.specs.declared.Record.{Record}
-use Rattle.front.specs.Front.{headingOf}
+use Rattle.front.specs.Code.Front.{headingOf}
 use Rattle.record.specs.Answer.{mismatch}
 
 -- the refusal of parts that fit, each by itself

@@ -9,8 +9,8 @@ use Rattle.rowtext.specs.Text.{rowPieces}
 use borrow.Author.Tests.{le-leb}
 use Rattle.rowtext.specs.Laws.Sizes.{row-size}
 use borrow.Author.Needs.{needs}
-use Rattle.rowtext.proofs.fits.Statement.{statement}
-use Rattle.rowtext.proofs.fits.Tie as tie
+use Rattle.rowtext.proofs.has_room.Statement.{statement}
+use Rattle.rowtext.proofs.has_room.Tie as tie
 
 returns : tie.Need-returns
 unfolding size
@@ -22,5 +22,5 @@ row-size-requires c κs = search needs
 returns-2 : tie.Need-returns-2
 returns-2 c = ap (λ (n : ℕ). leb n (c .before .before .args .room)) (c .row-size .ensures)
 
-pub fits-spec : {M : Type 1} → statement M
-fits-spec = tie.close (tie.spec returns row-size-requires returns-2)
+pub has-room-spec : {M : Type 1} → statement M
+has-room-spec = tie.close (tie.spec returns row-size-requires returns-2)

@@ -5,8 +5,8 @@ use borrow.Author.Tests.{le-leb}
 use native.Mathlib.Omega.{arith}
 use mathlib.Core.Path.{sym}
 use borrow.Author.Needs.{needs}
-use Rattle.notice.proofs.fits.Statement.{statement}
-use Rattle.notice.proofs.fits.Tie as tie
+use Rattle.notice.proofs.has_room.Statement.{statement}
+use Rattle.notice.proofs.has_room.Tie as tie
 
 returns : tie.Need-returns
 returns c = let s = c .before in sym (le-leb (length (noticeText (s .args .r))) (s .args .room) (omega (arith, text-fits (s .args .r) (s .pre))))
@@ -17,5 +17,5 @@ text-size-requires c κs = search needs
 returns-2 : tie.Need-returns-2
 returns-2 c = rw (c .text-size .ensures)
 
-pub fits-spec : {M : Type 1} → statement M
-fits-spec = tie.close (tie.spec returns text-size-requires returns-2)
+pub has-room-spec : {M : Type 1} → statement M
+has-room-spec = tie.close (tie.spec returns text-size-requires returns-2)

@@ -11,7 +11,7 @@ use Rattle.runway.specs.Runway.{readRunway}
 use Rattle.thirds.specs.Groups.{Three, codes, readGroup}
 use Rattle.rowtext.specs.Text.{numbersOf}
 use Rattle.row.specs.Row.{validRow}
-use Rattle.rowtext.specs.Reading.{Rest, allNR, makeThirds, readRest, readWidth, answer}
+use Rattle.rowtext.specs.Reading.{Rest, allNR, makeThirds, readRest, readWidth, rowAnswer}
 use Rattle.row.specs.declared.Row.{Row}
 use Rattle.rowtext.specs.declared.Step.{Step}
 use Rattle.rowtext.specs.declared.RowRead.{RowRead}
@@ -58,11 +58,11 @@ unfoldable pub fillFrom : ℕ → ℕ → Row → List ℕ → Got Row
 fillFrom zero g r m = got r m
 fillFrom (suc n) g r m = andThen (fillGroup g r m) (fillFrom n (suc g))
 
--- what the code's answer says of the reading of a group
+-- what the code's rowAnswer says of the reading of a group
 pub record Filled (m : List ℕ) (g : Got Row) (r : Step) : Type 0 where
   pub within : r .next ≤ length m
   pub says : g ≡ pick (r .fits) (got (r .row) (drop (r .next) m)) misfit
 
 -- a row whose groups gave this refusal
 unfoldable pub judgedRow : ℕ → Row → RowRead
-judgedRow n r = pick (eqb n 0) (pick (validRow r) (record { refusal = 0; row = r }) (answer misfit)) (answer misfit)
+judgedRow n r = pick (eqb n 0) (pick (validRow r) (record { refusal = 0; row = r }) (rowAnswer misfit)) (rowAnswer misfit)

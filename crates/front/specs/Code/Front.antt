@@ -14,10 +14,11 @@ use Rattle.frontlines.specs.declared.Title.{Title}
 use Rattle.frontlines.specs.Addresses.{readAddresses, addressesPieces}
 use Rattle.frontlines.specs.Filing.{readFiling, filingPieces}
 use Rattle.frontlines.specs.Heading.{Heading, aerodromeSize, readHeading, readSerialLine, readAerodrome, headingPieces, serialPieces, aerodromePieces}
-use Rattle.frontlines.specs.Answers.{zeros, blankAddresses, blankFiling, blankTitle}
+use Rattle.frontlines.specs.Code.Answers.{zeros, blankAddresses, blankFiling, blankTitle}
 use Rattle.text.specs.Out.{Out, refuse, taken, next, fit}
 use Rattle.front.specs.declared.Front.{Front}
 use Rattle.front.specs.declared.FrontRead.{FrontRead}
+use Rattle.text.specs.Refusals.{lineOneOrTwo, lineThree, outline}
 
 -- nothing is read yet
 abbrev pub blankFront : Front
@@ -62,7 +63,7 @@ fillLine k f l =
 
 -- its refusal, also where it is missing
 unfoldable pub lineRefusal : ℕ → ℕ
-lineRefusal k = pick (ltb k 2) 2 (pick (eqb k 2) 3 4)
+lineRefusal k = pick (ltb k 2) lineOneOrTwo (pick (eqb k 2) lineThree outline)
 
 -- one line more, and the lines behind it
 unfoldable pub nextLine : ℕ → Front → List (List ℕ) → Out (Front × List (List ℕ))

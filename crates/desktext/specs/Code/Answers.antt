@@ -8,5 +8,5 @@ use Rattle.desktext.specs.Line.{reportLine}
 use Rattle.desktext.specs.declared.Taken.{Taken}
 
 -- the report that the first line is, and where the next line starts
-abbrev pub taken : Board → List ℕ → Taken
-taken b m = record { answer = reportLine b (take (lineSize m) m); next = lineStep m }
+abbrev pub takenLine : Board → List ℕ → Taken
+takenLine b m = record { answer = reportLine b (take (lineSize m) m); next = lineStep m }

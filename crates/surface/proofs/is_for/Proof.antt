@@ -1,0 +1,19 @@
+use Rattle.text.specs.Laws.Tests.{tests}
+use Rattle.surface.specs.Table1.{isFor}
+use borrow.Author.Needs.{needs}
+use Rattle.surface.proofs.is_for.Statement.{statement}
+use Rattle.surface.proofs.is_for.Tie as tie
+
+holds-requires : tie.Need-holds-requires
+holds-requires c κs = search needs
+
+returns : tie.Need-returns
+unfolding isFor
+returns c = search tests
+
+returns-2 : tie.Need-returns-2
+unfolding isFor
+returns-2 c = search tests
+
+pub is-for-spec : {M : Type 1} → statement M
+is-for-spec = tie.close (tie.spec holds-requires returns returns-2)
