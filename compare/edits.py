@@ -39,7 +39,7 @@ import sys
 ROOT = pathlib.Path(__file__).resolve().parent.parent
 NAMED = ROOT / "compare" / "edits"
 # What stands apart from the definitions in specs/: laws, and what the checker evaluates.
-APART = {"Laws", "Theorems", "Tables", "Edges", "Pins", "Examples", "Lib"}
+APART = {"Laws", "Theorems", "Tables", "LineTables", "Edges", "Pins", "Examples", "Lib", "Code"}
 SWAPS = {"eqb": "ltb", "leb": "ltb", "ltb": "leb", "true": "false", "false": "true", "<": "<=", "<=": "<", "==": "!=",
          "!=": "==", "+": "-"}
 IN_DEFINITIONS = re.compile(r'"(?P<text>[^"]*)"|(?<![\w₀-₉.])(?<!Type )(?P<number>\d+)(?![\w₀-₉])(?! =)|(?<![\w.-])(?P<word>eqb|leb|ltb|true|false)(?![\w-])')
@@ -90,7 +90,7 @@ def candidates(root, kind):
         if not (base / "specs").is_dir():
             continue  # a program: what it prints is compared, it promises nothing
         if kind == "definitions":
-            files = sorted(p for p in (base / "specs").glob("*.antt") if p.stem not in APART)
+            files = sorted(p for folder in ("specs", "specs/Code") for p in (base / folder).glob("*.antt") if p.stem not in APART)
             lines, pattern = definition_lines, IN_DEFINITIONS
         else:
             files, lines, pattern = sorted((base / "src").glob("*.rt")), code_lines, IN_CODE
@@ -117,7 +117,7 @@ def changes(match):
 def first_error(lines):
     """The first error that a check printed: that of a table before that of a law, and that before that of a function's proof."""
     errors = [re.sub(r"^.*?/crates/", "", line) for line in lines if "error" in line]
-    evaluated = [error for error in errors if re.match(r"\w+/specs/(Tables|Edges|Pins|Examples)\b", error)]
+    evaluated = [error for error in errors if re.match(r"\w+/specs/(Tables|LineTables|Edges|Pins|Examples)\b", error)]
     stated = [error for error in errors if re.match(r"\w+/specs/", error)]
     return (evaluated or stated or errors or lines[-1:] or ["no word"])[0]
 

@@ -11,16 +11,22 @@
 set -eu
 cd "$(dirname "$0")/.."
 
+step() { printf '== %s\n' "$1"; }
+
 mkdir -p target/examples
+step "proving the library and writing target/staticlib/libphengaryl.a (five minutes from nothing, seconds where nothing has changed)"
 if ! rt staticlib phengaryl >target/examples/library.log 2>&1; then
     cat target/examples/library.log
     exit 1
 fi
 
+step "compiling examples/rust/src/main.rs"
 # Both commands may have options, so they are not quoted.
 ${RUSTC:-rustc} --edition 2021 -O -L native=target/staticlib -l static=phengaryl -o target/examples/notices examples/rust/src/main.rs
+step "listing examples/sample.txt"
 ${RUN:-} target/examples/notices examples/sample.txt
 
+step "comparing it with its canonical text"
 # Behind the listing's first line stands the canonical text.
 ${RUN:-} target/examples/notices examples/sample.txt | tail -n +2 >target/examples/canonical.txt
 ${RUN:-} target/examples/notices examples/sample.txt target/examples/canonical.txt

@@ -2,13 +2,13 @@
 use Prim.Native.Nat.{ℕ, zero, suc, _-_, _<_, _≤_}
 use mathlib.Core.Path.{_≡_, refl, _∙_, ap}
 use mathlib.Core.List.{List, [], _∷_}
-use mathlib.Core.Bool.{Bool, true, false}
+use mathlib.Core.Bool.{cond, Bool, true, false}
 use native.Mathlib.Omega.{arith}
 use lib.Dec.{eqb, ltb}
 use lib.ListN.{length, take, getD}
 use lib.Seq.{take-suc}
 use borrow.Author.Tests.{eqb-true, ltb-true, lt-ltb, ne-eqb}
-use Rattle.text.specs.Choice.{pick, _and_, all}
+use Rattle.text.specs.Choice.{_and_, all}
 use Rattle.text.specs.Laws.Base.{and-1, and-2, and-i, and-none, and-true}
 use Rattle.text.specs.Laws.Arrays.{all-last}
 use Rattle.items.specs.declared.Item.{Item}
@@ -26,7 +26,7 @@ no-fall : (a b : Item) → mayFollow a b ≡ true → a .letter ≤ b .letter
 unfolding mayFollow
 no-fall a b h = go (eqb (a .letter) (b .letter)) refl h
   where
-    go : (t : Bool) → eqb (a .letter) (b .letter) ≡ t → pick t (mayRepeat a b) (ltb (a .letter) (b .letter)) ≡ true → a .letter ≤ b .letter
+    go : (t : Bool) → eqb (a .letter) (b .letter) ≡ t → cond t (mayRepeat a b) (ltb (a .letter) (b .letter)) ≡ true → a .letter ≤ b .letter
     go true e q = omega (arith, eqb-true (a .letter) (b .letter) e)
     go false e q = omega (arith, ltb-true (a .letter) (b .letter) q)
 

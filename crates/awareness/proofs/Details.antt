@@ -2,10 +2,10 @@
 use Prim.Native.Nat.{ℕ, _<_, _≤_}
 use mathlib.Core.Path.{_≡_, refl, sym, _∙_, ap}
 use mathlib.Core.List.{List, [], _∷_}
-use mathlib.Core.Bool.{Bool, true, false}
+use mathlib.Core.Bool.{cond, Bool, true, false}
 use native.Mathlib.Omega.{arith}
 use lib.ListN.{drop}
-use Rattle.text.specs.Choice.{pick, _and_}
+use Rattle.text.specs.Choice.{_and_}
 use Rattle.text.specs.Read.{Got, misfit, got, guard, readText, readGap, readIf, readWord}
 use Rattle.text.specs.Names.{readName}
 use Rattle.text.specs.Texts.{named}
@@ -28,18 +28,18 @@ use Rattle.awareness.proofs.Names.{unspaced, name-low}
 -- an answer that fits, and one that does not
 module _ {A : Type 0} {m : List ℕ} {g : Got A} {f : Bool} {v : A} {n : ℕ} (h : Reads m g f v n) where
   pub read-got : f ≡ true → g ≡ got v (drop n m)
-  read-got e = h .says ∙ ap (λ (b : Bool). pick b (got v (drop n m)) misfit) e
+  read-got e = h .says ∙ ap (λ (b : Bool). cond b (got v (drop n m)) misfit) e
 
   pub read-off : f ≡ false → g ≡ misfit
-  read-off e = h .says ∙ ap (λ (b : Bool). pick b (got v (drop n m)) misfit) e
+  read-off e = h .says ∙ ap (λ (b : Bool). cond b (got v (drop n m)) misfit) e
 
 -- a fixed text that stands there, or does not
 module _ (t m : List ℕ) (v : ℕ) {k : List ℕ} {r : Found} (h : Held k (readWord t v m) r) where
   pub text-there : r .fits ≡ true → readText t m ≡ got tt (drop (r .next) k)
-  text-there e = held-text t m v h ∙ ap (λ (b : Bool). pick b (got tt (drop (r .next) k)) misfit) e
+  text-there e = held-text t m v h ∙ ap (λ (b : Bool). cond b (got tt (drop (r .next) k)) misfit) e
 
   pub text-off : r .fits ≡ false → readText t m ≡ misfit
-  text-off e = held-text t m v h ∙ ap (λ (b : Bool). pick b (got tt (drop (r .next) k)) misfit) e
+  text-off e = held-text t m v h ∙ ap (λ (b : Bool). cond b (got tt (drop (r .next) k)) misfit) e
 
 -- all that is said begins with a gap
 pub sayings-gap : (m : List ℕ) → readName saying sayings m ≡ readGap (readName (unspaced saying) sayings) m
@@ -76,17 +76,17 @@ saying-low m e = name-low saying sayings m 255 refl e
 -- a runway that stands there, or does not
 module _ {m : List ℕ} {g : Got (ℕ × ℕ)} {r : RunwayFound} (h : HeldRunway m g r) where
   pub runway-there : r .fits ≡ true → g ≡ got (r .number, r .side) (drop (r .next) m)
-  runway-there e = h .says ∙ ap (λ (b : Bool). pick b (got (r .number, r .side) (drop (r .next) m)) misfit) e
+  runway-there e = h .says ∙ ap (λ (b : Bool). cond b (got (r .number, r .side) (drop (r .next) m)) misfit) e
 
   pub runway-off : r .fits ≡ false → g ≡ misfit
-  runway-off e = h .says ∙ ap (λ (b : Bool). pick b (got (r .number, r .side) (drop (r .next) m)) misfit) e
+  runway-off e = h .says ∙ ap (λ (b : Bool). cond b (got (r .number, r .side) (drop (r .next) m)) misfit) e
 
 -- no item was found
 pub unread : {m : List ℕ} {g : Got Item} {r : ItemFound} → r ≡ noItem → g ≡ misfit → HeldItem m g r
 unread {m} {g} {r} e h = record {
   within = rw e (omega arith);
-  says = h ∙ sym (ap (λ (q : ItemFound). pick (q .fits) (got (q .item) (drop (q .next) m)) misfit) e);
-  blank = e ∙ sym (ap (λ (q : ItemFound). pick (q .fits) q noItem) e);
+  says = h ∙ sym (ap (λ (q : ItemFound). cond (q .fits) (got (q .item) (drop (q .next) m)) misfit) e);
+  blank = e ∙ sym (ap (λ (q : ItemFound). cond (q .fits) q noItem) e);
 }
 
 -- an item that is read, and held against what an item may be

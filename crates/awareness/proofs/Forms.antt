@@ -2,12 +2,12 @@
 use Prim.Native.Nat.{ℕ, zero, suc, _-_, _≤_}
 use mathlib.Core.Path.{_≡_, refl, sym, _∙_, ap}
 use mathlib.Core.List.{List, [], _∷_, _++_}
-use mathlib.Core.Bool.{Bool, true, false, not}
+use mathlib.Core.Bool.{cond, Bool, true, false, not}
 use native.Mathlib.Omega.{arith}
 use lib.Dec.{eqb, leb}
 use lib.ListN.{length, drop, replicate}
 use borrow.Author.Tests.{leb-true, eq-eqb}
-use Rattle.text.specs.Choice.{pick, _and_, all, isEmpty}
+use Rattle.text.specs.Choice.{_and_, all, isEmpty}
 use Rattle.text.specs.Piece.{bytes}
 use Rattle.text.specs.Read.{Got, misfit, got, guard, andThen, readText, readAs, readIf, readGap, readBefore, readWord}
 use Rattle.text.specs.Names.{isName, past, readName}
@@ -32,7 +32,7 @@ pub runway-valid : {p : (ℕ × ℕ) × (ℕ × (ℕ × ℕ))} {i : Item} → i 
 unfolding validItem taxiwaysFit slotsFit nameFits past _and_
 runway-valid {p} e = rw e (go (eqb (p .1 .0) letterR))
   where
-    go : (t : Bool) → (numbersFit (runwayItem p) and (true and all isZero (pick t (past isName (replicate 16 0)) (replicate 16 0)))) ≡ numbersFit (runwayItem p)
+    go : (t : Bool) → (numbersFit (runwayItem p) and (true and all isZero (cond t (past isName (replicate 16 0)) (replicate 16 0)))) ≡ numbersFit (runwayItem p)
     go true = and-true _
     go false = and-true _
 
@@ -122,8 +122,8 @@ pub held-bare : {m : List ℕ} (l i : ℕ) {r : ItemFound} → i ≤ length m �
 unfolding readBareForm
 held-bare {m} l i {r} h v e = record {
   within = rw e h;
-  says = ap (λ (t : Bool). guard t (got (bareItem l) (drop i m))) v ∙ sym (ap (λ (q : ItemFound). pick (q .fits) (got (q .item) (drop (q .next) m)) misfit) e);
-  blank = e ∙ sym (ap (λ (q : ItemFound). pick (q .fits) q noItem) e);
+  says = ap (λ (t : Bool). guard t (got (bareItem l) (drop i m))) v ∙ sym (ap (λ (q : ItemFound). cond (q .fits) (got (q .item) (drop (q .next) m)) misfit) e);
+  blank = e ∙ sym (ap (λ (q : ItemFound). cond (q .fits) q noItem) e);
 }
 
 -- an item without its full stop

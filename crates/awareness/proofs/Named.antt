@@ -2,11 +2,11 @@
 use Prim.Native.Nat.{ℕ, _+_, _-_}
 use mathlib.Core.Path.{_≡_, refl, sym, _∙_, ap}
 use mathlib.Core.List.{List, [], _∷_}
-use mathlib.Core.Bool.{Bool, true, false}
+use mathlib.Core.Bool.{cond, Bool, true, false}
 use native.Mathlib.Omega.{arith}
 use lib.ListN.{length, take, drop}
 use lib.Seq.{drop-drop}
-use Rattle.text.specs.Choice.{pick, all}
+use Rattle.text.specs.Choice.{all}
 use Rattle.text.specs.Read.{Got, misfit, got, guard, andThen, readText, readGap, readIf, readBefore}
 use Rattle.text.specs.Names.{isName, past, readRun}
 use Rattle.text.specs.Code.Held.{Reached, Spanned, noSpan}
@@ -42,10 +42,10 @@ module _ {A : Type 0} (f : List ℕ → Got A) (m : List ℕ) where
 -- an answer that fits, and one that does not
 module _ {m : List ℕ} {g : Got (List ℕ)} {r : Span} (h : Spanned m g r) where
   pub name-there : r .fits ≡ true → g ≡ got (take (r .next - r .start) (drop (r .start) m)) (drop (r .next) m)
-  name-there e = h .says ∙ ap (λ (b : Bool). pick b (got (take (r .next - r .start) (drop (r .start) m)) (drop (r .next) m)) misfit) e
+  name-there e = h .says ∙ ap (λ (b : Bool). cond b (got (take (r .next - r .start) (drop (r .start) m)) (drop (r .next) m)) misfit) e
 
   pub name-off : r .fits ≡ false → g ≡ misfit
-  name-off e = h .says ∙ ap (λ (b : Bool). pick b (got (take (r .next - r .start) (drop (r .start) m)) (drop (r .next) m)) misfit) e
+  name-off e = h .says ∙ ap (λ (b : Bool). cond b (got (take (r .next - r .start) (drop (r .start) m)) (drop (r .next) m)) misfit) e
 
 unnamed : {m : List ℕ} {g : Got (List ℕ)} → g ≡ misfit → Spanned m g noSpan
 unnamed e = record { ordered = omega arith; within = omega arith; says = e; blank = refl }

@@ -22,7 +22,8 @@ pub record Answers : Type 0 where
   pub no-item : noItem ≡ record { fits = false; item = bareItem 0; next = 0 }
   pub bare : bareFound letterJ 14 ≡ record { fits = true; item = bareItem letterJ; next = 14 }
   pub no-items : itemsAnswer misfit ≡ record { fits = false; count = 0; items = replicate 32 (bareItem 0) }
-  pub items : itemsAnswer (got (bareItem letterJ ∷ bareItem letterP ∷ []) []) ≡ record { fits = true; count = 2; items = bareItem letterJ ∷ bareItem letterP ∷ replicate 30 (bareItem 0) }
+  pub items : itemsAnswer (got (bareItem letterJ ∷ bareItem letterP ∷ []) [])
+      ≡ record { fits = true; count = 2; items = bareItem letterJ ∷ bareItem letterP ∷ replicate 30 (bareItem 0) }
 
 pub answers : Answers
 answers = record { no-detail = refl; no-item = refl; bare = refl; no-items = refl; items = refl }

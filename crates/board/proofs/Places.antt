@@ -2,12 +2,12 @@
 use Prim.Native.Nat.{ℕ, suc, _+_, _<_, _≤_}
 use mathlib.Core.Path.{_≡_, refl, sym, _∙_, ap}
 use mathlib.Core.List.{List, [], _∷_}
-use mathlib.Core.Bool.{Bool, true, false}
+use mathlib.Core.Bool.{cond, Bool, true, false}
 use lib.Dec.{ltb}
 use lib.ListN.{length, take, drop, getD, drop-of-length-le}
 use borrow.Author.Tests.{ltb-true, ltb-false, le-leb, eq-eqb}
 use native.Mathlib.Omega.{arith}
-use Rattle.text.specs.Choice.{pick, _and_, all}
+use Rattle.text.specs.Choice.{_and_, all}
 use Rattle.text.specs.Laws.Arrays.{next-place, next-used, none-left}
 use Rattle.row.specs.declared.Row.{Row}
 use Rattle.row.specs.Row.{isBlankRow}
@@ -72,14 +72,14 @@ module _ {A : Type 0} (p : A → Bool) (d : A) (l : List A) (i : ℕ) where
 -- rows in their places
 module _ (n : ℕ) (ws : List Runway) (rs : List Row) (i : ℕ) (d : Row) where
   abbrev fits : Bool
-  fits = pick (ltb i n) (fitsPlace (getD ws i blankRunway) (getD rs i d)) (isBlankRow (getD rs i d))
+  fits = cond (ltb i n) (fitsPlace (getD ws i blankRunway) (getD rs i d)) (isBlankRow (getD rs i d))
 
   fit-next : i < length ws → i < length rs → fitPlaces (drop i (take n ws)) (drop i rs) ≡ (fits and fitPlaces (drop (i + 1) (take n ws)) (drop (i + 1) rs))
   unfolding fitPlaces
   fit-next f h = ap (fitPlaces (drop i (take n ws))) (next-place d rs i h) ∙ go (ltb i n) refl
     where
       go : (t : Bool) → ltb i n ≡ t → fitPlaces (drop i (take n ws)) (getD rs i d ∷ drop (i + 1) rs)
-          ≡ (pick t (fitsPlace (getD ws i blankRunway) (getD rs i d)) (isBlankRow (getD rs i d)) and fitPlaces (drop (i + 1) (take n ws)) (drop (i + 1) rs))
+          ≡ (cond t (fitsPlace (getD ws i blankRunway) (getD rs i d)) (isBlankRow (getD rs i d)) and fitPlaces (drop (i + 1) (take n ws)) (drop (i + 1) rs))
       go true e = let k = ltb-true i n e in ap (λ l. fitPlaces l (getD rs i d ∷ drop (i + 1) rs)) (next-used blankRunway ws i n k f)
       go false e =
           let k = ltb-false i n e in

@@ -1,10 +1,10 @@
 -- The board: document 01, "The board".
 use Prim.Native.Nat.{ℕ}
 use mathlib.Core.List.{List, [], _∷_}
-use mathlib.Core.Bool.{Bool, true}
+use mathlib.Core.Bool.{cond, Bool, true}
 use lib.Dec.{eqb, leb, ltb}
 use lib.ListN.{length, take, drop, replicate}
-use Rattle.text.specs.Choice.{pick, _and_, all}
+use Rattle.text.specs.Choice.{_and_, all}
 use Rattle.runway.specs.Runway.{validRunway}
 use Rattle.row.specs.declared.Row.{Row}
 use Rattle.row.specs.Row.{highestRunway, validRow, blankRow, isBlankRow}
@@ -33,7 +33,7 @@ isBlankRunway w = eqb (w .number) 0 and eqb (w .side) 0
 
 -- "by number, then none, L, C, R"
 unfoldable pub comesBefore : Runway → Runway → Bool
-comesBefore v w = pick (eqb (v .number) (w .number)) (ltb (v .side) (w .side)) (ltb (v .number) (w .number))
+comesBefore v w = cond (eqb (v .number) (w .number)) (ltb (v .side) (w .side)) (ltb (v .number) (w .number))
 
 -- a runway that may stand behind v
 unfoldable pub rises : Runway → Runway → Bool
@@ -56,7 +56,7 @@ names r w = eqb (r .number) (w .number) and eqb (r .side) (w .side)
 
 -- "a shown row is valid and stands in its own runway's place"; an unreported place is zero
 unfoldable pub fitsPlace : Runway → Row → Bool
-fitsPlace w r = pick (isBlankRow r) true (validRow r and names r w)
+fitsPlace w r = cond (isBlankRow r) true (validRow r and names r w)
 
 -- the runways' places, and behind them "every unused or unreported place is zero"
 unfoldable pub fitPlaces : List Runway → List Row → Bool
@@ -98,4 +98,4 @@ refusedOpening = answer wrongBoard blankBoard
 
 -- "Opened with an aerodrome and 1 to 8 runways"
 unfoldable pub opening : List ℕ → ℕ → List Runway → Answer
-opening aerodrome count runways = pick (validList aerodrome count runways) (answer 0 (fresh aerodrome count runways)) refusedOpening
+opening aerodrome count runways = cond (validList aerodrome count runways) (answer 0 (fresh aerodrome count runways)) refusedOpening

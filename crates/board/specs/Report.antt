@@ -1,14 +1,14 @@
 -- "A report is a row. It is taken only if observed later than the row shown."
 use Prim.Native.Nat.{ℕ, suc}
 use mathlib.Core.List.{List, [], _∷_}
-use mathlib.Core.Bool.{Bool, true}
+use mathlib.Core.Bool.{cond, Bool, true}
 use lib.Dec.{ltb}
 use lib.ListN.{getD, set}
-use Rattle.text.specs.Choice.{_else_, firstFailing, pick}
+use Rattle.text.specs.Choice.{_else_, firstFailing}
 use Rattle.runway.specs.Time.{later}
 use Rattle.row.specs.declared.Row.{Row}
 use Rattle.row.specs.Row.{validRow, blankRow, isBlankRow}
-use Rattle.text.specs.Refusals.{invalidRow, wrongBoard}
+use Rattle.text.specs.Refusals.{notLater, notOnBoard, invalidRow, wrongBoard}
 use Rattle.board.specs.declared.Runway.{Runway}
 use Rattle.board.specs.declared.Board.{Board}
 use Rattle.board.specs.declared.Answer.{Answer}
@@ -17,7 +17,7 @@ use Rattle.board.specs.Board.{names, runwaysOf, validBoard, answer}
 -- how many runways of a list stand before the one that the row names
 unfoldable pub placeOf : Row → List Runway → ℕ
 placeOf r [] = 0
-placeOf r (w ∷ ws) = pick (names r w) 0 (suc (placeOf r ws))
+placeOf r (w ∷ ws) = cond (names r w) 0 (suc (placeOf r ws))
 
 -- what a place holds
 abbrev pub rowAt : Board → ℕ → Row
@@ -25,7 +25,7 @@ rowAt b i = getD (b .rows) i blankRow
 
 -- "observed later than the row shown", if there is one
 unfoldable pub isNews : Row → Row → Bool
-isNews r shown = pick (isBlankRow shown) true (later (r .time) (shown .time))
+isNews r shown = cond (isBlankRow shown) true (later (r .time) (shown .time))
 
 -- the board with one place stored
 abbrev pub stored : Board → ℕ → Row → Board

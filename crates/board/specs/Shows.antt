@@ -2,9 +2,8 @@
 use Prim.Native.Nat.{ℕ}
 use mathlib.Core.Path.{_≡_}
 use mathlib.Core.List.{List, _∷_, _++_, List·Memᴰ}
-use mathlib.Core.Bool.{true, false}
+use mathlib.Core.Bool.{cond, true, false}
 use lib.ListN.{getD}
-use Rattle.text.specs.Choice.{pick}
 use Rattle.runway.specs.Time.{later}
 use Rattle.row.specs.declared.Row.{Row}
 use Rattle.row.specs.Row.{validRow, isBlankRow}
@@ -20,7 +19,7 @@ pub data Shown : Type 0 where
 
 -- a place of zeros shows nothing
 abbrev pub shown : Row → Shown
-shown r = pick (isBlankRow r) nothing (row r)
+shown r = cond (isBlankRow r) nothing (row r)
 
 -- the runway of the place i
 abbrev pub runwayAt : Board → ℕ → Runway

@@ -16,7 +16,8 @@ use Rattle.row.specs.Row.{blankRow, threeThat, isBlankRow, validRow}
 use Rattle.frontlines.specs.Letters.{isLetters}
 use Rattle.board.specs.declared.Runway.{Runway}
 use Rattle.board.specs.declared.Board.{Board}
-use Rattle.board.specs.Board.{places, blankRunway, isBlankRunway, comesBefore, rises, rising, isAerodrome, validList, names, fitsPlace, fitPlaces, validPlaces, validBoard, blankBoard, fresh, answer, opening}
+use Rattle.board.specs.Board.{places, blankRunway, isBlankRunway, comesBefore, rises, rising, isAerodrome, validList, names, fitsPlace, fitPlaces}
+use Rattle.board.specs.Board.{validPlaces, validBoard, blankBoard, fresh, answer, opening}
 use Rattle.board.specs.Report.{placeOf, isNews, report, reports}
 
 -- sides: 0 none, 1 L, 2 C, 3 R
@@ -48,16 +49,21 @@ pub record Openings : Type 0 where
   taken : opening (bytes "XQAA") 2 pair ≡ answer 0 board
   -- "A refused opening yields the blank board"
   refused : opening (bytes "XQA1") 2 pair ≡ answer 17 blankBoard
-  aerodromes : map (λ s. opens (bytes s) 2 pair) ("AAAA" ∷ "ZZZZ" ∷ "XQA" ∷ "XQAAX" ∷ "xqaa" ∷ "XQ A" ∷ "@QAA" ∷ "XQA[" ∷ []) ≡ 0 ∷ 0 ∷ 17 ∷ 17 ∷ 17 ∷ 17 ∷ 17 ∷ 17 ∷ []
+  aerodromes : map (λ s. opens (bytes s) 2 pair) ("AAAA" ∷ "ZZZZ" ∷ "XQA" ∷ "XQAAX" ∷ "xqaa" ∷ "XQ A" ∷ "@QAA" ∷ "XQA[" ∷ [])
+      ≡ 0 ∷ 0 ∷ 17 ∷ 17 ∷ 17 ∷ 17 ∷ 17 ∷ 17 ∷ []
   -- "1 to 8 runways"
-  counts : opens (bytes "XQAA") 0 (list []) ∷ opens (bytes "XQAA") 1 (list (runway 7 0 ∷ [])) ∷ opens (bytes "XQAA") 8 eight ∷ opens (bytes "XQAA") 9 (eight ++ runway 18 3 ∷ []) ∷ opens (bytes "XQAA") 9 eight ∷ [] ≡ 17 ∷ 0 ∷ 0 ∷ 17 ∷ 17 ∷ []
+  counts : opens (bytes "XQAA") 0 (list []) ∷ opens (bytes "XQAA") 1 (list (runway 7 0 ∷ [])) ∷ opens (bytes "XQAA") 8 eight
+      ∷ opens (bytes "XQAA") 9 (eight ++ runway 18 3 ∷ []) ∷ opens (bytes "XQAA") 9 eight ∷ [] ≡ 17 ∷ 0 ∷ 0 ∷ 17 ∷ 17 ∷ []
   -- "rising by number, then none, L, C, R"
   rise : two (runway 7 0) (runway 7 1) ∷ two (runway 7 1) (runway 7 2) ∷ two (runway 7 2) (runway 7 3) ∷ two (runway 7 3) (runway 8 0) ∷ [] ≡ 0 ∷ 0 ∷ 0 ∷ 0 ∷ []
-  fall : two (runway 7 1) (runway 7 0) ∷ two (runway 7 2) (runway 7 1) ∷ two (runway 7 3) (runway 7 2) ∷ two (runway 8 0) (runway 7 3) ∷ two (runway 7 1) (runway 7 1) ∷ [] ≡ 17 ∷ 17 ∷ 17 ∷ 17 ∷ 17 ∷ []
+  fall : two (runway 7 1) (runway 7 0) ∷ two (runway 7 2) (runway 7 1) ∷ two (runway 7 3) (runway 7 2) ∷ two (runway 8 0) (runway 7 3)
+      ∷ two (runway 7 1) (runway 7 1) ∷ [] ≡ 17 ∷ 17 ∷ 17 ∷ 17 ∷ 17 ∷ []
   -- "01 to 18, then nothing, L, C or R"
-  numbers : two (runway 1 0) (runway 18 0) ∷ two (runway 1 0) (runway 19 0) ∷ two (runway 0 1) (runway 1 0) ∷ two (runway 7 0) (runway 7 4) ∷ [] ≡ 0 ∷ 17 ∷ 17 ∷ 17 ∷ []
+  numbers : two (runway 1 0) (runway 18 0) ∷ two (runway 1 0) (runway 19 0) ∷ two (runway 0 1) (runway 1 0) ∷ two (runway 7 0) (runway 7 4) ∷ []
+      ≡ 0 ∷ 17 ∷ 17 ∷ 17 ∷ []
   -- zeros past the count, and eight places
-  rest : opens (bytes "XQAA") 1 pair ∷ opens (bytes "XQAA") 1 (list (runway 7 0 ∷ runway 0 1 ∷ [])) ∷ opens (bytes "XQAA") 1 (runway 7 0 ∷ []) ∷ [] ≡ 17 ∷ 17 ∷ 17 ∷ []
+  rest : opens (bytes "XQAA") 1 pair ∷ opens (bytes "XQAA") 1 (list (runway 7 0 ∷ runway 0 1 ∷ [])) ∷ opens (bytes "XQAA") 1 (runway 7 0 ∷ []) ∷ []
+      ≡ 17 ∷ 17 ∷ 17 ∷ []
 
 pub openings : Openings
 unfolding _and_ validRunway isLetters isAerodrome isBlankRunway comesBefore rises rising validList opening
@@ -97,13 +103,31 @@ pub record Reports : Type 0 where
   stays : report (holding (left ∷ [])) left ≡ answer 20 (holding (left ∷ []))
   -- the board's rules: its own place, valid, zeros in every unused or unreported place, eight places
   rules : map (λ rs. validBoard (holding rs)) ([] ∷ (left ∷ []) ∷ (blankRow ∷ right ∷ []) ∷ (left ∷ right ∷ []) ∷ []) ≡ true ∷ true ∷ true ∷ true ∷ []
-  neighbours : map (λ rs. validBoard (holding rs)) ((right ∷ []) ∷ (blankRow ∷ left ∷ []) ∷ (left ∷ left ∷ []) ∷ (dryRow 1120610 7 0 ∷ []) ∷ []) ≡ false ∷ false ∷ false ∷ false ∷ []
-  zeros : map (λ rs. validBoard (holding rs)) ((dryRow 2300000 7 1 ∷ []) ∷ (dryRow 0 7 1 ∷ []) ∷ (left ∷ right ∷ dryRow 1120610 8 0 ∷ []) ∷ replicate 9 blankRow ∷ []) ≡ false ∷ false ∷ false ∷ false ∷ []
+  neighbours : map (λ rs. validBoard (holding rs)) ((right ∷ []) ∷ (blankRow ∷ left ∷ []) ∷ (left ∷ left ∷ []) ∷ (dryRow 1120610 7 0 ∷ []) ∷ [])
+      ≡ false ∷ false ∷ false ∷ false ∷ []
+  zeros : map (λ rs. validBoard (holding rs)) ((dryRow 2300000 7 1 ∷ []) ∷ (dryRow 0 7 1 ∷ []) ∷ (left ∷ right ∷ dryRow 1120610 8 0 ∷ [])
+      ∷ replicate 9 blankRow ∷ []) ≡ false ∷ false ∷ false ∷ false ∷ []
   -- "blank means all zero"
-  blank : (blankBoard .aerodrome ≡ replicate 4 0) × (blankBoard .count ≡ 0) × (blankBoard .runways ≡ replicate 8 (record { number = 0; side = 0 })) × (blankBoard .rows ≡ replicate 8 blankRow)
+  blank : (blankBoard .aerodrome ≡ replicate 4 0) × (blankBoard .count ≡ 0) × (blankBoard .runways ≡ replicate 8 (record { number = 0; side = 0 }))
+      × (blankBoard .rows ≡ replicate 8 blankRow)
   -- how many places stand before the runway that a row names
   places-of : map (placeOf left) ([] ∷ (runway 7 1 ∷ []) ∷ (runway 7 3 ∷ runway 7 1 ∷ []) ∷ (runway 7 3 ∷ []) ∷ []) ≡ 0 ∷ 0 ∷ 1 ∷ 1 ∷ []
 
 pub reporting : Reports
-unfolding _and_ isShortMonth daysOf realDay realClock realTime later validRunway isContaminant isDeep isCoverage validCoverage leastDepth isReported validDepth validThird isBlankThird threeThat isBlankRow validRow isLetters isAerodrome isBlankRunway comesBefore rises rising validList names fitsPlace fitPlaces validPlaces validBoard placeOf isNews report reports
-reporting = record { times = refl; equal = refl; apart = refl; order = refl; broken = refl; stored = refl; stays = refl; rules = refl; neighbours = refl; zeros = refl; blank = (refl, refl, refl, refl); places-of = refl }
+unfolding _and_ isShortMonth daysOf realDay realClock realTime later validRunway isContaminant isDeep isCoverage validCoverage leastDepth isReported
+    validDepth validThird isBlankThird threeThat isBlankRow validRow isLetters isAerodrome isBlankRunway comesBefore rises rising validList names fitsPlace
+    fitPlaces validPlaces validBoard placeOf isNews report reports
+reporting = record {
+  times = refl;
+  equal = refl;
+  apart = refl;
+  order = refl;
+  broken = refl;
+  stored = refl;
+  stays = refl;
+  rules = refl;
+  neighbours = refl;
+  zeros = refl;
+  blank = (refl, refl, refl, refl);
+  places-of = refl;
+}

@@ -2,10 +2,9 @@
 use Prim.Native.Nat.{ℕ, _<_}
 use mathlib.Core.Path.{_≡_, refl, sym, subst, _∙_, ap}
 use mathlib.Core.List.{List, [], List·Permᴰ, Permᴰ·symm}
-use mathlib.Core.Bool.{Bool, true, false}
+use mathlib.Core.Bool.{cond, Bool, true, false}
 use lib.ListN.{getD}
 use native.Mathlib.Omega.{arith}
-use Rattle.text.specs.Choice.{pick}
 use Rattle.row.specs.declared.Row.{Row}
 use Rattle.board.specs.declared.Runway.{Runway}
 use Rattle.board.specs.declared.Board.{Board}
@@ -26,7 +25,7 @@ pub refuses : (a : List ℕ) (n : ℕ) (ws : List Runway) → validList a n ws �
 unfolding opening
 refuses a n ws h = rw h
 
--- the board b was opened-fresh with the aerodrome a and the n runways of ws
+-- the board b was opened with the aerodrome a and the n runways of ws
 module _ (a : List ℕ) (n : ℕ) (ws : List Runway) (b : Board) (taken : opening a n ws ≡ answer 0 b) where
   -- after any list of reports, valid or not, the board's rules hold
   pub rules-hold : (rs : List Row) → validBoard (reports b rs) ≡ true
@@ -48,11 +47,13 @@ module _ (a : List ℕ) (n : ℕ) (ws : List Runway) (b : Board) (taken : openin
       shows-after b w [] rs i v (omega arith) (ap (λ x. getD (x .runways) i blankRunway) o) (subst (λ x. Shows w [] (shownAt x i)) (sym o) (nothing-at w i))
 
   -- and no other board of that list does
-  pub no-other : (rs : List Row) (c : Board) → validBoard c ≡ true → SameList b c → ((i : ℕ) → i < n → Shows (getD ws i blankRunway) rs (shownAt c i)) → c ≡ reports b rs
+  pub no-other : (rs : List Row) (c : Board) → validBoard c ≡ true → SameList b c → ((i : ℕ) → i < n → Shows (getD ws i blankRunway) rs (shownAt c i))
+      → c ≡ reports b rs
   no-other rs c v s h =
       let t = reports-list b rs in
       let k = list-stays rs .1 in
-      same-board c (reports b rs) v (rules-hold rs) (record { aerodrome = s .aerodrome ∙ sym (t .aerodrome); count = s .count ∙ sym (t .count); runways = s .runways ∙ sym (t .runways) })
+      same-board c (reports b rs) v (rules-hold rs)
+      (record { aerodrome = s .aerodrome ∙ sym (t .aerodrome); count = s .count ∙ sym (t .count); runways = s .runways ∙ sym (t .runways) })
       (λ i l. shows-one (getD ws i blankRunway) (h i (omega arith)) (runway-shows rs i (omega arith)))
 
   -- reports of which no two different valid ones for a runway of the list bear the same time, in another order
@@ -65,13 +66,14 @@ module _ (a : List ℕ) (n : ℕ) (ws : List Runway) (b : Board) (taken : openin
         let k = list-stays ys .1 in
         same-board (reports b xs) (reports b ys) (rules-hold xs) (rules-hold ys)
         (record { aerodrome = x .aerodrome ∙ sym (y .aerodrome); count = x .count ∙ sym (y .count); runways = x .runways ∙ sym (y .runways) })
-        (λ i l. shows-moved (getD ws i blankRunway) (permuted moved) (permuted (Permᴰ·symm moved)) (apart i (omega arith)) (runway-shows xs i (omega arith)) (runway-shows ys i (omega arith)))
+        (λ i l. shows-moved (getD ws i blankRunway) (permuted moved) (permuted (Permᴰ·symm moved)) (apart i (omega arith)) (runway-shows xs i (omega arith))
+        (runway-shows ys i (omega arith)))
 
 -- a refused report leaves the board as it was
 pub refused-stays : (b : Board) (r : Row) → (report b r .refusal ≡ 0 → ⊥) → report b r .board ≡ b
 refused-stays b r h = report-board b r ∙ go (takes b r) refl
   where
-    go : (t : Bool) → takes b r ≡ t → pick t (stored b (placeOf r (runwaysOf b)) r) b ≡ b
+    go : (t : Bool) → takes b r ≡ t → cond t (stored b (placeOf r (runwaysOf b)) r) b ≡ b
     go false e = refl
     go true e = absurd (h (taken-0 b r e))
 
@@ -80,5 +82,6 @@ pub twice : (b c : Board) (r : Row) → report b r ≡ answer 0 c → report c r
 twice = again-20
 
 -- each promise leaves no choice: those of opening and reporting are equations, and of the desk's step
-pub stepped-one : (b : Board) (r : Row) {c d : Board} {n m : ℕ} → (c ≡ report b r .board) × (n ≡ report b r .refusal) → (d ≡ report b r .board) × (m ≡ report b r .refusal) → (c ≡ d) × (n ≡ m)
+pub stepped-one : (b : Board) (r : Row) {c d : Board} {n m : ℕ} → (c ≡ report b r .board) × (n ≡ report b r .refusal)
+    → (d ≡ report b r .board) × (m ≡ report b r .refusal) → (c ≡ d) × (n ≡ m)
 stepped-one b r p q = (p .0 ∙ sym (q .0), p .1 ∙ sym (q .1))

@@ -4,7 +4,8 @@
 ghost use mathlib.Core.Path.{_≡_};
 ghost use lib.Dec.{ltb};
 ghost use lib.ListN.{take, drop};
-ghost use Rattle.text.specs.Choice.{pick, all};
+ghost use Rattle.text.specs.Choice.{all};
+ghost use mathlib.Core.Bool.{cond};
 ghost use Rattle.row.specs.Row.{isBlankRow};
 ghost use Rattle.board.specs.Board.{isAerodrome, blankRunway, isBlankRunway, comesBefore, rises, rising, validList, names, fitsPlace, validPlaces, validBoard, blankBoard, opening, refusedOpening};
 ghost use Rattle.board.specs.Report.{placeOf, isNews, report};
@@ -160,7 +161,7 @@ fn fits_place(w: Runway, r: Row) -> bool
 
 // The place `i` of a board with `count` runways; an unused one is zero.
 fn place_fits(i: usize, count: usize, w: Runway, r: Row) -> bool
-    ensures { λ b. ⌜ b ≡ pick (ltb i count) (fitsPlace w r) (isBlankRow r) ⌝ }
+    ensures { λ b. ⌜ b ≡ cond (ltb i count) (fitsPlace w r) (isBlankRow r) ⌝ }
 {
     if i < count {
         return fits_place(w, r);

@@ -14,7 +14,8 @@ use Rattle.items.specs.declared.Items.{Items}
 use Rattle.items.specs.declared.Language.{Language}
 use Rattle.body.specs.Rows.{makeRows}
 use Rattle.boardnotice.specs.declared.Details.{Details}
-use Rattle.board.specs.Board.{isBlankRunway, comesBefore, rises, rising, isAerodrome, validList, names, fitsPlace, fitPlaces, validPlaces, validBoard, blankBoard}
+use Rattle.board.specs.Board.{isBlankRunway, comesBefore, rises, rising, isAerodrome, validList, names, fitsPlace, fitPlaces, validPlaces, validBoard}
+use Rattle.board.specs.Board.{blankBoard}
 use Rattle.board.specs.Report.{placeOf, isNews, report, reports}
 use Rattle.boardnotice.specs.Writing.{reported, boardRecord, writingBoard, writtenBoard}
 use Rattle.board.specs.Tables.{board, dryRow, holding, left, right}
@@ -33,7 +34,9 @@ pub record Writings : Type 0 where
   aerodrome : (d : Details) (i : Items) (l : Language) → boardRecord board d i l .title .aerodrome ≡ bytes "XQAA"
 
 pub writings : Writings
-unfolding _and_ isShortMonth daysOf realDay realClock realTime later validRunway isContaminant isDeep isCoverage validCoverage leastDepth isReported validDepth validThird isBlankThird threeThat isBlankRow validRow isLetters isAerodrome isBlankRunway comesBefore rises rising validList names fitsPlace fitPlaces validPlaces validBoard placeOf isNews report reports reported writingBoard writtenBoard
+unfolding _and_ isShortMonth daysOf realDay realClock realTime later validRunway isContaminant isDeep isCoverage validCoverage leastDepth isReported
+    validDepth validThird isBlankThird threeThat isBlankRow validRow isLetters isAerodrome isBlankRunway comesBefore rises rising validList names fitsPlace
+    fitPlaces validPlaces validBoard placeOf isNews report reports reported writingBoard writtenBoard
 writings = record {
   wrong = λ d i l n. refl;
   silent = λ d i l n. refl;

@@ -50,9 +50,11 @@ module _ (b : Board) (d : Details) (i : Items) (l : Language) (room : ℕ) where
 
 -- with the details, items and plain language of any valid record, every board that shows a row is written if there is room: 13 never comes by the board
 pub board-writes : (b : Board) → validBoard b ≡ true → isEmpty (reported (b .rows)) ≡ false → (r : Record) → validRecord r ≡ true → (room : ℕ)
-    → length (noticeText (boardRecord b (detailsOf r) (r .items) (r .language))) ≤ room → writingBoard b (detailsOf r) (r .items) (r .language) room .refusal ≡ 0
+    → length (noticeText (boardRecord b (detailsOf r) (r .items) (r .language))) ≤ room
+    → writingBoard b (detailsOf r) (r .items) (r .language) room .refusal ≡ 0
 board-writes b v some r h room fits = ap (λ w. w .refusal) (board-written b v some r h room fits)
 
 -- the promise leaves no choice
-pub wrote-one : {b : Board} {d : Details} {i : Items} {l : Language} {before x y : List ℕ} {v w : Written} → WroteBoard b d i l before x v → WroteBoard b d i l before y w → (v ≡ w) × (x ≡ y)
+pub wrote-one : {b : Board} {d : Details} {i : Items} {l : Language} {before x y : List ℕ} {v w : Written} → WroteBoard b d i l before x v
+    → WroteBoard b d i l before y w → (v ≡ w) × (x ≡ y)
 wrote-one p q = (p .answer ∙ sym (q .answer), p .holds ∙ sym (q .holds))

@@ -3,7 +3,7 @@ use Prim.Native.Nat.{ℕ}
 use mathlib.Core.Path.{_≡_}
 use mathlib.Core.List.{List, [], _∷_}
 use lib.ListN.{length}
-use Rattle.text.specs.Choice.{firstFailing, _else_, pick, isEmpty}
+use Rattle.text.specs.Choice.{firstFailing, _else_, isEmpty}
 use Rattle.row.specs.declared.Row.{Row}
 use Rattle.row.specs.Row.{isBlankRow}
 use Rattle.items.specs.declared.Items.{Items}
@@ -16,12 +16,12 @@ use Rattle.board.specs.declared.Board.{Board}
 use Rattle.boardnotice.specs.declared.Details.{Details}
 use Rattle.board.specs.Board.{validBoard}
 use Rattle.text.specs.Refusals.{wrongBoard, noReport}
-use mathlib.Core.Bool.{not}
+use mathlib.Core.Bool.{cond, not}
 
 -- the rows shown, in board order
 unfoldable pub reported : List Row → List Row
 reported [] = []
-reported (r ∷ rs) = pick (isBlankRow r) (reported rs) (r ∷ reported rs)
+reported (r ∷ rs) = cond (isBlankRow r) (reported rs) (r ∷ reported rs)
 
 -- the record of a board: its aerodrome and rows, and the rest as it is given
 abbrev pub boardRecord : Board → Details → Items → Language → Record
@@ -45,8 +45,8 @@ writingBoard b d i l room =
 -- the buffer afterwards: a refused writing touches no byte
 unfoldable pub writtenBoard : Board → Details → Items → Language → List ℕ → List ℕ
 writtenBoard b d i l buffer =
-    pick (validBoard b)
-    (pick (isEmpty (reported (b .rows))) buffer (written (boardRecord b d i l) buffer))
+    cond (validBoard b)
+    (cond (isEmpty (reported (b .rows))) buffer (written (boardRecord b d i l) buffer))
     buffer
 
 -- what writing a board promises

@@ -2,14 +2,14 @@
 use Prim.Native.Nat.{ℕ, suc, _+_, _-_, _<_, _≤_}
 use mathlib.Core.Path.{_≡_, refl, sym, _∙_, ap}
 use mathlib.Core.List.{List, [], _∷_, _++_}
-use mathlib.Core.Bool.{Bool, true, false}
+use mathlib.Core.Bool.{cond, Bool, true, false}
 use native.Mathlib.Numerals.{add-one}
 use native.Mathlib.Omega.{arith}
 use lib.Dec.{eqb, ltb}
 use lib.ListN.{length, take, drop, set, length-append, length-take, length-drop, drop-of-length-le}
 use lib.Seq.{length-take-le, take-suc-set}
 use borrow.Author.Tests.{ne-eqb, eq-eqb, ltb-true, ltb-false}
-use Rattle.text.specs.Choice.{pick, isEmpty}
+use Rattle.text.specs.Choice.{isEmpty}
 use Rattle.text.specs.Read.{Got, misfit, got}
 use Rattle.text.specs.Lines.{lines, linesSize, closed, lineText}
 use Rattle.text.specs.declared.Line.{Line}
@@ -125,11 +125,11 @@ module _ {m : List ℕ} {rows : List Row} {count at : ℕ} (s : SoFar m rows cou
     within = line-inside m at h q
 
     -- it is empty
-    pub blank-line : line .size ≡ 0 → RowsHeld m (rowsAnswer (pick (eqb count 0) 4 0) (held count rows) false next)
+    pub blank-line : line .size ≡ 0 → RowsHeld m (rowsAnswer (cond (eqb count 0) 4 0) (held count rows) false next)
     unfolding readRows rowsAnswer
     blank-line z = go (eqb count 0) (none-yet (s .kept))
       where
-        go : (b : Bool) → isEmpty rs ≡ b → RowsHeld m (rowsAnswer (pick b 4 0) (held count rows) false next)
+        go : (b : Bool) → isEmpty rs ≡ b → RowsHeld m (rowsAnswer (cond b 4 0) (held count rows) false next)
         go true e = refused m 4 refl (first ∙ rw (z, e)) (held count rows) false next
         go false e = record { kept = s .kept; says = first ∙ rw (z, e); place = next-lies; blank = refl }
 
@@ -152,7 +152,7 @@ module _ {m : List ℕ} {rows : List Row} {count at : ℕ} (s : SoFar m rows cou
         row-is = let n : at + line .size - at ≡ line .size = omega arith in p ∙ rw n
 
         abbrev behind : Row → Bool → Out Block
-        behind row c = pick (isAmong row rs) (refuse 7) (pick c (atEnd rest (block (rs ++ (row ∷ [])) finished)) (readRows (mostRows - (count + 1)) (rs ++ (row ∷ [])) rest))
+        behind row c = cond (isAmong row rs) (refuse 7) (cond c (atEnd rest (block (rs ++ (row ∷ [])) finished)) (readRows (mostRows - (count + 1)) (rs ++ (row ∷ [])) rest))
 
         row-here : readRows mostRows [] (lines m) ≡ fit 5 (wholeRow (lineText text)) (λ row. behind row (closed text))
         row-here = let n : mostRows - count ≡ suc (mostRows - (count + 1)) = omega arith in first ∙ rw n (row-line (mostRows - (count + 1)) rs text rest some-text)
@@ -179,14 +179,14 @@ module _ {m : List ℕ} {rows : List Row} {count at : ℕ} (s : SoFar m rows cou
                 record { kept = grown (s .kept) (r .row) f; lies = rw add-one next-lies; left = one-more ∙ rw (b, c, one) }
 
             -- it is the last row
-            pub last-line : r .closed ≡ true → RowsHeld m (rowsAnswer (pick (ltb next (length m)) 4 0) (held (count + 1) (set rows count (r .row))) true next)
+            pub last-line : r .closed ≡ true → RowsHeld m (rowsAnswer (cond (ltb next (length m)) 4 0) (held (count + 1) (set rows count (r .row))) true next)
             unfolding rowsAnswer lines
             last-line c = go (ltb next (length m)) refl
               where
                 said : readRows mostRows [] (lines m) ≡ atEnd rest (block (rs ++ (r .row ∷ [])) finished)
                 said = one-more ∙ rw (b, c)
 
-                go : (t : Bool) → ltb next (length m) ≡ t → RowsHeld m (rowsAnswer (pick t 4 0) (held (count + 1) (set rows count (r .row))) true next)
+                go : (t : Bool) → ltb next (length m) ≡ t → RowsHeld m (rowsAnswer (cond t 4 0) (held (count + 1) (set rows count (r .row))) true next)
                 go true e =
                     let l = ltb-true next (length m) e in
                     refused m 4 refl (said ∙ rw (first-lines (drop next m) (omega (arith, length-drop next m)))) (held (count + 1) (set rows count (r .row))) true next

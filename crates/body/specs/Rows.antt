@@ -1,10 +1,10 @@
 -- The rows of a notice: which are valid, the latest time, and how they are read.
 use Prim.Native.Nat.{ℕ, zero, suc}
 use mathlib.Core.List.{List, [], _∷_, _++_}
-use mathlib.Core.Bool.{Bool, true, false, not}
+use mathlib.Core.Bool.{cond, Bool, true, false, not}
 use lib.Dec.{eqb, leb}
 use lib.ListN.{length, take, drop}
-use Rattle.text.specs.Choice.{pick, _and_, all, isEmpty}
+use Rattle.text.specs.Choice.{_and_, all, isEmpty}
 use Rattle.text.specs.Lines.{closed, lineText}
 use Rattle.text.specs.Arrays.{pad}
 use Rattle.runway.specs.Time.{later}
@@ -34,7 +34,7 @@ sameRunway a b = eqb (a .number) (b .number) and eqb (a .side) (b .side)
 -- the row's runway is one of those seen
 unfoldable pub isAmong : Row → List Row → Bool
 isAmong r [] = false
-isAmong r (s ∷ ss) = pick (sameRunway s r) true (isAmong r ss)
+isAmong r (s ∷ ss) = cond (sameRunway s r) true (isAmong r ss)
 
 -- "No runway twice": neither among the rows, nor one of those seen before
 unfoldable pub newRunways : List Row → List Row → Bool
@@ -43,7 +43,7 @@ newRunways seen (r ∷ rs) = not (isAmong r seen) and newRunways (seen ++ (r ∷
 
 -- of two times the later
 unfoldable pub latestOf : ℕ → ℕ → ℕ
-latestOf t s = pick (later s t) s t
+latestOf t s = cond (later s t) s t
 
 -- the latest of a time and those of the rows
 unfoldable pub latestFrom : ℕ → List Row → ℕ
@@ -74,11 +74,11 @@ unfoldable pub readRows : ℕ → List Row → List (List ℕ) → Out Block
 -- "a line or `)` missing"
 readRows n seen [] = refuse outline
 -- "an empty line ends the rows (4 while there is none)"
-readRows n seen ([] ∷ ls) = pick (isEmpty seen) (refuse outline) (taken (block seen (more ls)))
+readRows n seen ([] ∷ ls) = cond (isEmpty seen) (refuse outline) (taken (block seen (more ls)))
 -- "a ninth line that is not empty where a row may stand": 6 before the row's own rules
 readRows zero seen ((x ∷ l) ∷ ls) = refuse ninthRow
 -- "any other line, `)` alone too, is read as a row", 5; "7 comes after the row's own rules"; `)` closes
 readRows (suc n) seen ((x ∷ l) ∷ ls) = fit noRow (wholeRow (lineText (x ∷ l))) (λ r.
-    pick (isAmong r seen) (refuse runwayTwice)
-    (pick (closed (x ∷ l)) (atEnd ls (block (seen ++ (r ∷ [])) finished))
+    cond (isAmong r seen) (refuse runwayTwice)
+    (cond (closed (x ∷ l)) (atEnd ls (block (seen ++ (r ∷ [])) finished))
     (readRows n (seen ++ (r ∷ [])) ls)))

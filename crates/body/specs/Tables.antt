@@ -38,7 +38,8 @@ pub record Runways : Type 0 where
   among : map (isAmong (on 7 1)) ([] ∷ (on 7 2 ∷ on 7 1 ∷ []) ∷ (on 7 2 ∷ on 8 1 ∷ []) ∷ []) ≡ false ∷ true ∷ false ∷ []
   new : map (newRunways []) ([] ∷ (on 7 1 ∷ on 7 2 ∷ on 8 1 ∷ []) ∷ (on 7 1 ∷ on 7 2 ∷ on 7 1 ∷ []) ∷ []) ≡ true ∷ true ∷ false ∷ []
   -- "The heading's time is the latest row time", and times are "compared as plain eight-digit numbers"
-  times : map latest ([] ∷ (at 1120610 ∷ []) ∷ (at 1120610 ∷ at 1120640 ∷ at 1120625 ∷ []) ∷ (at 1010005 ∷ at 12312355 ∷ []) ∷ []) ≡ 0 ∷ 1120610 ∷ 1120640 ∷ 12312355 ∷ []
+  times : map latest ([] ∷ (at 1120610 ∷ []) ∷ (at 1120610 ∷ at 1120640 ∷ at 1120625 ∷ []) ∷ (at 1010005 ∷ at 12312355 ∷ []) ∷ [])
+      ≡ 0 ∷ 1120610 ∷ 1120640 ∷ 12312355 ∷ []
 
 pub runways : Runways
 unfolding _and_ sameRunway isAmong newRunways latest Rows.latestOf Rows.latestFrom later
@@ -49,7 +50,14 @@ abbrev line : List ℕ
 line = bytes "01120640 12 6/6/6 DRY/DRY/DRY)"
 
 abbrev dries : Row
-dries = record { time = 1120640; number = 12; side = 0; thirds = third 6 notReported notReported dry ∷ third 6 notReported notReported dry ∷ third 6 notReported notReported dry ∷ []; width = 0 }
+dries = record {
+  time = 1120640;
+  number = 12;
+  side = 0;
+  thirds = third 6 notReported notReported dry ∷ third 6 notReported notReported dry
+      ∷ third 6 notReported notReported dry ∷ [];
+  width = 0;
+}
 
 abbrev rows : Rows
 rows = makeRows (dries ∷ [])
@@ -72,7 +80,9 @@ pub record Answers : Type 0 where
   held-closed : RowsHeld line (told 0 rows true 0)
 
 pub answers : Answers
-unfolding _and_ skip readText readName readDigits measurePieces readMeasure readCoverage readDescription readThird readGroup readFull readShort readWidth readRow isShortMonth daysOf realDay realClock realTime validRunway isContaminant isDeep isCoverage validCoverage leastDepth isReported validDepth validThird threeThat validRow isBare isSix isDry isShort lines linesSize closed allButLast isAmong readRows rowsAnswer
+unfolding _and_ skip readText readName readDigits measurePieces readMeasure readCoverage readDescription readThird readGroup readFull readShort readWidth
+    readRow isShortMonth daysOf realDay realClock realTime validRunway isContaminant isDeep isCoverage validCoverage leastDepth isReported validDepth
+    validThird threeThat validRow isBare isSix isDry isShort lines linesSize closed allButLast isAmong readRows rowsAnswer
 answers = record {
   most = refl;
   missing = refl;

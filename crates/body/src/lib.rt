@@ -6,7 +6,8 @@ ghost use mathlib.Core.List.{[], map};
 ghost use lib.Dec.{eqb, ltb};
 ghost use lib.ListN.{take, drop};
 ghost use Rattle.text.specs.Refusals.{outline};
-ghost use Rattle.text.specs.Choice.{pick, all};
+ghost use Rattle.text.specs.Choice.{all};
+ghost use mathlib.Core.Bool.{cond};
 ghost use Rattle.text.specs.Piece.{canonical};
 ghost use Rattle.text.specs.Lines.{under};
 ghost use Rattle.text.specs.Put.{Put};
@@ -211,14 +212,14 @@ fn no_rows(refusal: u8) -> RowsRead
 
 // An empty line ends the rows: 4 while there is none.
 fn empty_line(count: u8) -> u8
-    ensures { λ r. ⌜ r ≡ pick (eqb count 0) outline 0 ⌝ }
+    ensures { λ r. ⌜ r ≡ cond (eqb count 0) outline 0 ⌝ }
 {
     if count == 0 { refusal::OUTLINE } else { 0 }
 }
 
 // A row that `)` closes is the last: 4 where bytes follow.
 fn last_row(next: usize, length: usize) -> u8
-    ensures { λ r. ⌜ r ≡ pick (ltb next length) outline 0 ⌝ }
+    ensures { λ r. ⌜ r ≡ cond (ltb next length) outline 0 ⌝ }
 {
     if next < length { refusal::OUTLINE } else { 0 }
 }

@@ -2,12 +2,12 @@
 use Prim.Native.Nat.{ℕ, zero, suc, _<_, _≤_}
 use mathlib.Core.Path.{_≡_, refl, sym, _∙_, ap}
 use mathlib.Core.List.{List, [], _∷_, _++_}
-use mathlib.Core.Bool.{Bool, true, false}
+use mathlib.Core.Bool.{cond, Bool, true, false}
 use lib.ListN.{length, take, drop}
 use lib.Seq.{take-all}
 use borrow.Author.Tests.{ne-eqb, le-leb, lt-leb}
 use native.Mathlib.Omega.{arith}
-use Rattle.text.specs.Choice.{pick, _and_}
+use Rattle.text.specs.Choice.{_and_}
 use Rattle.text.specs.Piece.{canonical, end}
 use Rattle.text.specs.Read.{Got, misfit, got, guard, andThen, whole}
 use Rattle.text.specs.Names.{isLetter, readCount}
@@ -19,7 +19,7 @@ use Rattle.row.specs.declared.Row.{Row}
 use Rattle.rowtext.specs.declared.RowRead.{RowRead}
 use Rattle.row.specs.Row.{validRow}
 use Rattle.rowtext.specs.Text.{rowPieces}
-use Rattle.rowtext.specs.Reading.{wholeRow, rowAnswer as rowAnswer}
+use Rattle.rowtext.specs.Reading.{wholeRow, rowAnswer}
 use Rattle.text.specs.Refusals.{noRow}
 use Rattle.frontlines.specs.Letters.{isLetters}
 use Rattle.frontlines.specs.Heading.{aerodromeSize, readAerodrome}
@@ -29,7 +29,7 @@ use Rattle.text.specs.Lines.{longest}
 use Rattle.board.specs.declared.Runway.{Runway}
 use Rattle.board.specs.declared.Board.{Board}
 use Rattle.desktext.specs.declared.RunwayList.{RunwayList}
-use Rattle.board.specs.Board.{places, blankRunway, isAerodrome, validList, noRows, rowAnswer, opening, refusedOpening}
+use Rattle.board.specs.Board.{places, blankRunway, isAerodrome, validList, noRows, answer, opening, refusedOpening}
 use Rattle.board.specs.Report.{report}
 use Rattle.desktext.specs.Line.{readRunways, readOpening, listAnswer, openingRead, openingLine, reportRead, reportLine, shownText}
 use Rattle.board.specs.Laws.Aerodrome.{aerodrome-fits}
@@ -54,7 +54,7 @@ none-opens : (a : List ℕ) (ws : List Runway) → opening a 0 ws ≡ refusedOpe
 unfolding opening validList _and_
 none-opens a ws = go (isAerodrome a)
   where
-    go : (t : Bool) → pick (t and false) (rowAnswer 0 (record { aerodrome = a; count = 0; runways = ws; rows = noRows })) refusedOpening ≡ refusedOpening
+    go : (t : Bool) → cond (t and false) (answer 0 (record { aerodrome = a; count = 0; runways = ws; rows = noRows })) refusedOpening ≡ refusedOpening
     go true = refl
     go false = refl
 
@@ -98,16 +98,16 @@ module _ (line : List ℕ) where
 
 -- the line of a report
 module _ (b : Board) (line : List ℕ) where
-  pub long-line : longest < length line → rowAnswer noRow b ≡ reportLine b line
+  pub long-line : longest < length line → answer noRow b ≡ reportLine b line
   unfolding reportLine
   long-line h = rw (lt-leb (length line) longest h)
 
   module _ (h : length line ≤ longest) (r : RowRead) (e : r ≡ rowAnswer (wholeRow line)) where
-    pub no-row : (r .refusal ≡ 0 → ⊥) → rowAnswer noRow b ≡ reportLine b line
+    pub no-row : (r .refusal ≡ 0 → ⊥) → answer noRow b ≡ reportLine b line
     unfolding reportLine
     no-row z = rw (le-leb (length line) longest h) (go (wholeRow line) (λ k. z (ap (λ (x : RowRead). x .refusal) e ∙ k)))
       where
-        go : (g : Got Row) → (rowAnswer g .refusal ≡ 0 → ⊥) → rowAnswer noRow b ≡ reportRead b g
+        go : (g : Got Row) → (rowAnswer g .refusal ≡ 0 → ⊥) → answer noRow b ≡ reportRead b g
         go misfit z = refl
         go (got r k) z = absurd (z refl)
 

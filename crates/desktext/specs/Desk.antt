@@ -2,7 +2,7 @@
 use Prim.Native.Nat.{ℕ, zero, suc}
 use mathlib.Core.List.{List, [], _∷_, _++_}
 use lib.Dec.{eqb}
-use Rattle.text.specs.Choice.{pick}
+use mathlib.Core.Bool.{cond}
 use Rattle.text.specs.Piece.{bytes, canonical}
 use Rattle.text.specs.Numbers.{number}
 use Rattle.text.specs.Lines.{lines}
@@ -36,7 +36,7 @@ refusedText = printed (bytes "REFUSED 17")
 
 -- "It prints `OPEN`, or `REFUSED 17` and stops"
 abbrev pub openedText : Answer → List (List ℕ) → List ℕ
-openedText a ls = pick (eqb (a .refusal) 0) (printed (bytes "OPEN") ++ answersText (a .board) ls) refusedText
+openedText a ls = cond (eqb (a .refusal) 0) (printed (bytes "OPEN") ++ answersText (a .board) ls) refusedText
 
 -- "a line with the aerodrome and the runways, then one runway row a line"; no line opens nothing
 abbrev pub linesText : List (List ℕ) → List ℕ

@@ -3,7 +3,7 @@ use Prim.Native.Nat.{ℕ}
 use mathlib.Core.List.{List, [], _∷_}
 use lib.Dec.{leb}
 use lib.ListN.{length}
-use Rattle.text.specs.Choice.{pick}
+use mathlib.Core.Bool.{cond}
 use Rattle.text.specs.Piece.{Piece, byte, end, canonical, verbatim, layAll, _then_}
 use Rattle.text.specs.Read.{Got, misfit, got, whole, readSeq, readAs, readMany}
 use Rattle.text.specs.Names.{readCount, isSpace}
@@ -68,8 +68,8 @@ reportRead b (got r k) = report b r
 
 -- "or is over 4,096 bytes"
 unfoldable pub reportLine : Board → List ℕ → Answer
-reportLine b line = pick (leb (length line) longest) (reportRead b (wholeRow line)) (answer noRow b)
+reportLine b line = cond (leb (length line) longest) (reportRead b (wholeRow line)) (answer noRow b)
 
 -- "at the end the rows shown, in board order, one a line": zeros, and all that is no valid row, have none
 unfoldable pub shownText : Row → List ℕ
-shownText r = pick (validRow r) (canonical (rowPieces r then (end ∷ []))) []
+shownText r = cond (validRow r) (canonical (rowPieces r then (end ∷ []))) []

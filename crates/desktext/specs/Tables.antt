@@ -31,10 +31,12 @@ text (s ∷ ss) = bytes s ++ (10 ∷ text ss)
 
 pub record Inputs : Type 0 where
   -- two reports, and one that is not later than the row shown
-  reports : deskText (text ("XQAA 07L 07R" ∷ "01120610 07L 3/5/5 75/25/NR 12/NR/NR DRY SNOW/FROST/DRY" ∷ "01120640 07R  6/6/6 NR/NR/NR NR/NR/NR DRY/DRY/DRY" ∷ "01120610 07L 6/6/6 DRY/DRY/DRY" ∷ []))
+  reports : deskText (text ("XQAA 07L 07R" ∷ "01120610 07L 3/5/5 75/25/NR 12/NR/NR DRY SNOW/FROST/DRY" ∷ "01120640 07R  6/6/6 NR/NR/NR NR/NR/NR DRY/DRY/DRY"
+      ∷ "01120610 07L 6/6/6 DRY/DRY/DRY" ∷ []))
       ≡ text ("OPEN" ∷ "0" ∷ "0" ∷ "20" ∷ "01120610 07L 3/5/5 75/25/NR 12/NR/NR DRY SNOW/FROST/DRY" ∷ "01120640 07R 6/6/6 DRY/DRY/DRY" ∷ [])
   -- the rows are shown in board order, whatever their times and the order of the reports
-  order : deskText (text ("XQAA 07L 07R" ∷ "01120610 07R 6/6/6 DRY/DRY/DRY" ∷ "01120640 07L 6/6/6 DRY/DRY/DRY" ∷ [])) ≡ text ("OPEN" ∷ "0" ∷ "0" ∷ "01120640 07L 6/6/6 DRY/DRY/DRY" ∷ "01120610 07R 6/6/6 DRY/DRY/DRY" ∷ [])
+  order : deskText (text ("XQAA 07L 07R" ∷ "01120610 07R 6/6/6 DRY/DRY/DRY" ∷ "01120640 07L 6/6/6 DRY/DRY/DRY" ∷ []))
+      ≡ text ("OPEN" ∷ "0" ∷ "0" ∷ "01120640 07L 6/6/6 DRY/DRY/DRY" ∷ "01120610 07R 6/6/6 DRY/DRY/DRY" ∷ [])
   -- an opening that is refused: nothing else is printed
   refused : deskText (text ("XQAA 07L  07R" ∷ "01120610 07L 6/6/6 DRY/DRY/DRY" ∷ [])) ≡ text ("REFUSED 17" ∷ [])
   empty : deskText [] ≡ text ("REFUSED 17" ∷ [])
@@ -43,8 +45,13 @@ pub record Inputs : Type 0 where
   unended : deskText (bytes "XQAA 07L") ≡ text ("OPEN" ∷ [])
   last : deskText (text ("XQAA 07L" ∷ []) ++ bytes "01120610 07L 6/6/6 DRY/DRY/DRY") ≡ text ("OPEN" ∷ "0" ∷ "01120610 07L 6/6/6 DRY/DRY/DRY" ∷ [])
   -- every further line is a row line; CR LF ends it as LF does; with no row taken nothing is shown
-  lines : deskText (bytes "XQAA 07L" ++ (13 ∷ 10 ∷ []) ++ text ("" ∷ "01120610 07R 6/6/6 DRY/DRY/DRY" ∷ "01120610 07L 6/6/6 DRY/DRY/DRY)" ∷ [])) ≡ text ("OPEN" ∷ "5" ∷ "18" ∷ "5" ∷ [])
+  lines : deskText (bytes "XQAA 07L" ++ (13 ∷ 10 ∷ []) ++ text ("" ∷ "01120610 07R 6/6/6 DRY/DRY/DRY" ∷ "01120610 07L 6/6/6 DRY/DRY/DRY)" ∷ []))
+      ≡ text ("OPEN" ∷ "5" ∷ "18" ∷ "5" ∷ [])
 
 pub inputs : Inputs
-unfolding _and_ lines spell skip readText readMany readName readCount digits readDigits isShortMonth daysOf realDay realClock realTime later validRunway isContaminant isDeep isCoverage validCoverage leastDepth isReported validDepth validThird isBlankThird measurePieces readMeasure readCoverage readDescription thirdPieces readThird readGroup threeThat isBlankRow validRow isBare isSix isDry isShort middlePieces widthPieces rowPieces readFull readShort readWidth readRow isLetters readAerodrome isAerodrome isBlankRunway comesBefore rises rising validList names fitsPlace fitPlaces validPlaces validBoard opening placeOf isNews report readSpaced readOpening openingLine reportLine shownText answerLine shownRows answersText deskText
+unfolding _and_ lines spell skip readText readMany readName readCount digits readDigits isShortMonth daysOf realDay realClock realTime later validRunway
+    isContaminant isDeep isCoverage validCoverage leastDepth isReported validDepth validThird isBlankThird measurePieces readMeasure readCoverage
+    readDescription thirdPieces readThird readGroup threeThat isBlankRow validRow isBare isSix isDry isShort middlePieces widthPieces rowPieces readFull
+    readShort readWidth readRow isLetters readAerodrome isAerodrome isBlankRunway comesBefore rises rising validList names fitsPlace fitPlaces validPlaces
+    validBoard opening placeOf isNews report readSpaced readOpening openingLine reportLine shownText answerLine shownRows answersText deskText
 inputs = record { reports = refl; order = refl; refused = refl; empty = refl; blank = refl; unended = refl; last = refl; lines = refl }

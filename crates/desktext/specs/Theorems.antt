@@ -2,11 +2,10 @@
 use Prim.Native.Nat.{ℕ, zero, suc, _+_, _*_, _≤_}
 use mathlib.Core.Path.{_≡_}
 use mathlib.Core.List.{List, [], _∷_, _++_}
-use mathlib.Core.Bool.{Bool, true, false}
+use mathlib.Core.Bool.{cond, Bool, true, false}
 use native.Mathlib.Omega.{arith}
 use lib.Dec.{eqb}
 use lib.ListN.{length, drop, length-append}
-use Rattle.text.specs.Choice.{pick}
 use Rattle.text.specs.Lines.{push, isReturn, lines}
 use Rattle.text.specs.Piece.{bytes}
 use Rattle.text.specs.Put.{Put}
@@ -25,7 +24,7 @@ unfolding lines
 lines-few [] = omega arith
 lines-few (x ∷ m) = go (eqb x 10) (isReturn x m) (lines m) (lines-few m)
   where
-    go : (a b : Bool) (ls : List (List ℕ)) → length ls ≤ length m → length (pick a ([] ∷ ls) (pick b ls (push x ls))) ≤ suc (length m)
+    go : (a b : Bool) (ls : List (List ℕ)) → length ls ≤ length m → length (cond a ([] ∷ ls) (cond b ls (push x ls))) ≤ suc (length m)
     go true b ls h = omega arith
     go false true ls h = omega arith
     go false false [] h = omega arith
@@ -51,7 +50,7 @@ pub desk-size : (m : List ℕ) → length (deskText m) ≤ 3 * length m + 1186
 unfolding deskText
 desk-size m = go (lines m) (lines-few m)
   where
-    opened : (k : Bool) (b : Board) (ls : List (List ℕ)) → length (pick k (printed (bytes "OPEN") ++ answersText b ls) refusedText) ≤ 3 * length ls + 1189
+    opened : (k : Bool) (b : Board) (ls : List (List ℕ)) → length (cond k (printed (bytes "OPEN") ++ answersText b ls) refusedText) ≤ 3 * length ls + 1189
     opened true b ls = rw length-append (omega (arith, answers-size b ls))
     opened false b ls = omega arith
 
@@ -60,7 +59,8 @@ desk-size m = go (lines m) (lines-few m)
     go (l ∷ ls) h = omega (arith, opened (eqb (openingLine l .refusal) 0) (openingLine l .board) ls)
 
 -- so a buffer of that size holds the whole text, and its length is told
-pub desk-whole : (m : List ℕ) {b x : List ℕ} {r : ℕ} → 3 * length m + 1186 ≤ length b → Put 0 (deskText m) b x r → (r ≡ length (deskText m)) × (x ≡ deskText m ++ drop (length (deskText m)) b)
+pub desk-whole : (m : List ℕ) {b x : List ℕ} {r : ℕ} → 3 * length m + 1186 ≤ length b → Put 0 (deskText m) b x r
+    → (r ≡ length (deskText m)) × (x ≡ deskText m ++ drop (length (deskText m)) b)
 desk-whole m h p = whole-put p (omega (arith, desk-size m))
 
 -- the promise of a row shown leaves no choice

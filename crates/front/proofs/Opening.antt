@@ -2,13 +2,12 @@
 use Prim.Native.Nat.{ℕ, suc, _+_, _-_, _<_, _≤_}
 use mathlib.Core.Path.{_≡_, refl, sym, _∙_, ap}
 use mathlib.Core.List.{List, [], _∷_}
-use mathlib.Core.Bool.{Bool, true, false}
+use mathlib.Core.Bool.{cond, Bool, true, false}
 use native.Mathlib.Numerals.{add-one}
 use native.Mathlib.Omega.{arith}
 use lib.Dec.{eqb, ltb}
 use borrow.Author.Tests.{ne-eqb}
 use lib.ListN.{length, take, drop, drop-of-length-le}
-use Rattle.text.specs.Choice.{pick}
 use Rattle.text.specs.Read.{Got, misfit, got, andThen, whole}
 use Rattle.text.specs.Lines.{lines, linesSize}
 use Rattle.text.specs.Code.Held.{Held, firstLine}
@@ -30,58 +29,58 @@ use Rattle.front.specs.declared.Front.{Front}
 use Rattle.front.specs.Code.Front.{frontCount, blankFront, withAddresses, withFiling, withHeading, withSerial, withAerodrome, fillLine, lineRefusal, nextLine, fillLines, frontAnswer, FrontHeld}
 
 -- what a line's answer stands for
-addresses-says : (g : Got Addresses) {r : AddressesRead} → r ≡ addressesAnswer (whole g) → whole g ≡ pick (r .fits) (got (r .addresses) []) misfit
+addresses-says : (g : Got Addresses) {r : AddressesRead} → r ≡ addressesAnswer (whole g) → whole g ≡ cond (r .fits) (got (r .addresses) []) misfit
 addresses-says misfit e = rw e
 addresses-says (got a []) e = rw e
 addresses-says (got a (x ∷ k)) e = rw e
 
-filing-says : (g : Got Filing) {r : FilingRead} → r ≡ filingAnswer (whole g) → whole g ≡ pick (r .fits) (got (r .filing) []) misfit
+filing-says : (g : Got Filing) {r : FilingRead} → r ≡ filingAnswer (whole g) → whole g ≡ cond (r .fits) (got (r .filing) []) misfit
 filing-says misfit e = rw e
 filing-says (got a []) e = rw e
 filing-says (got a (x ∷ k)) e = rw e
 
-heading-says : (g : Got Heading) {r : HeadingRead} → r ≡ headingAnswer (whole g) → whole g ≡ pick (r .fits) (got (record { title = r .title; time = r .time }) []) misfit
+heading-says : (g : Got Heading) {r : HeadingRead} → r ≡ headingAnswer (whole g) → whole g ≡ cond (r .fits) (got (record { title = r .title; time = r .time }) []) misfit
 heading-says misfit e = rw e
 heading-says (got a []) e = rw e
 heading-says (got a (x ∷ k)) e = rw e
 
-aerodrome-says : (g : Got (List ℕ)) {r : AerodromeRead} → r ≡ aerodromeAnswer (whole g) → whole g ≡ pick (r .fits) (got (r .aerodrome) []) misfit
+aerodrome-says : (g : Got (List ℕ)) {r : AerodromeRead} → r ≡ aerodromeAnswer (whole g) → whole g ≡ cond (r .fits) (got (r .aerodrome) []) misfit
 aerodrome-says misfit e = rw e
 aerodrome-says (got a []) e = rw e
 aerodrome-says (got a (x ∷ k)) e = rw e
 
-serial-says : (g : Got ℕ) {m : List ℕ} {r : Found} → Held m (whole g) r → whole g ≡ pick (r .fits) (got (r .value) []) misfit
+serial-says : (g : Got ℕ) {m : List ℕ} {r : Found} → Held m (whole g) r → whole g ≡ cond (r .fits) (got (r .value) []) misfit
 serial-says g {m} {r} h = go (r .fits) (h .says)
   where
-    go : (b : Bool) → whole g ≡ pick b (got (r .value) (drop (r .next) m)) misfit → whole g ≡ pick b (got (r .value) []) misfit
+    go : (b : Bool) → whole g ≡ cond b (got (r .value) (drop (r .next) m)) misfit → whole g ≡ cond b (got (r .value) []) misfit
     go true e = e ∙ ap (got (r .value)) (whole-got g e .1)
     go false e = e
 
-into : {A : Type 0} (to : A → Front) {g : Got A} (b : Bool) (v : A) → g ≡ pick b (got v []) misfit → andThen g (λ a k. got (to a) k) ≡ pick b (got (to v) []) misfit
+into : {A : Type 0} (to : A → Front) {g : Got A} (b : Bool) (v : A) → g ≡ cond b (got v []) misfit → andThen g (λ a k. got (to a) k) ≡ cond b (got (to v) []) misfit
 into to true v e = rw e
 into to false v e = rw e
 
 -- and the front that it is read into
 module _ (f : Front) (l : List ℕ) where
-  pub fill-addresses : {r : AddressesRead} → r ≡ addressesAnswer (whole (readAddresses l)) → fillLine 0 f l ≡ pick (r .fits) (got (withAddresses f (r .addresses)) []) misfit
+  pub fill-addresses : {r : AddressesRead} → r ≡ addressesAnswer (whole (readAddresses l)) → fillLine 0 f l ≡ cond (r .fits) (got (withAddresses f (r .addresses)) []) misfit
   unfolding fillLine
   fill-addresses {r} h = into (withAddresses f) (r .fits) (r .addresses) (addresses-says (readAddresses l) h)
 
-  pub fill-filing : {r : FilingRead} → r ≡ filingAnswer (whole (readFiling l)) → fillLine 1 f l ≡ pick (r .fits) (got (withFiling f (r .filing)) []) misfit
+  pub fill-filing : {r : FilingRead} → r ≡ filingAnswer (whole (readFiling l)) → fillLine 1 f l ≡ cond (r .fits) (got (withFiling f (r .filing)) []) misfit
   unfolding fillLine
   fill-filing {r} h = into (withFiling f) (r .fits) (r .filing) (filing-says (readFiling l) h)
 
-  pub fill-heading : {r : HeadingRead} → r ≡ headingAnswer (whole (readHeading l)) → fillLine 2 f l ≡ pick (r .fits) (got (withHeading f (record { title = r .title; time = r .time })) []) misfit
+  pub fill-heading : {r : HeadingRead} → r ≡ headingAnswer (whole (readHeading l)) → fillLine 2 f l ≡ cond (r .fits) (got (withHeading f (record { title = r .title; time = r .time })) []) misfit
   unfolding fillLine
   fill-heading {r} h = into (withHeading f) (r .fits) (record { title = r .title; time = r .time }) (heading-says (readHeading l) h)
 
-  pub fill-serial : {r : Found} → Held l (whole (readSerialLine l)) r → fillLine 3 f l ≡ pick (r .fits) (got (withSerial f (r .value)) []) misfit
+  pub fill-serial : {r : Found} → Held l (whole (readSerialLine l)) r → fillLine 3 f l ≡ cond (r .fits) (got (withSerial f (r .value)) []) misfit
   unfolding fillLine
   fill-serial {r} h = into (withSerial f) (r .fits) (r .value) (serial-says (readSerialLine l) h)
 
   -- the last of them
   pub fill-aerodrome : (k : ℕ) → (((Unit {0} × (k ≡ 0 → ⊥)) × (k ≡ 1 → ⊥)) × (k ≡ 2 → ⊥)) × (k ≡ 3 → ⊥) → {r : AerodromeRead} → r ≡ aerodromeAnswer (whole (readAerodrome l))
-      → fillLine k f l ≡ pick (r .fits) (got (withAerodrome f (r .aerodrome)) []) misfit
+      → fillLine k f l ≡ cond (r .fits) (got (withAerodrome f (r .aerodrome)) []) misfit
   unfolding fillLine
   fill-aerodrome k n {r} h = rw (ne-eqb k 0 (n .0 .0 .0 .1), ne-eqb k 1 (n .0 .0 .1), ne-eqb k 2 (n .0 .1), ne-eqb k 3 (n .1)) (into (withAerodrome f) (r .fits) (r .aerodrome) (aerodrome-says (readAerodrome l) h))
 
@@ -90,7 +89,7 @@ refuses : (k : ℕ) → eqb (lineRefusal k) 0 ≡ false
 unfolding lineRefusal
 refuses k = go (ltb k 2) (eqb k 2)
   where
-    go : (a b : Bool) → eqb (pick a 2 (pick b 3 4)) 0 ≡ false
+    go : (a b : Bool) → eqb (cond a 2 (cond b 3 4)) 0 ≡ false
     go true b = refl
     go false true = refl
     go false false = refl
@@ -105,7 +104,7 @@ unfolding fillLines nextLine lines
 line-missing m at k f h e = rw (one-left k h, drop-of-length-le m e)
 
 -- the line k fits, or does not
-module _ (m : List ℕ) (at : ℕ) (w : at < length m) {n : Line} (e : n ≡ firstLine (take (length m - at) (drop at m))) (k : ℕ) (f : Front) (l : k < frontCount) (b : Bool) (g : Front) (h : fillLine k f (take (at + n .size - at) (drop at m)) ≡ pick b (got g []) misfit) where
+module _ (m : List ℕ) (at : ℕ) (w : at < length m) {n : Line} (e : n ≡ firstLine (take (length m - at) (drop at m))) (k : ℕ) (f : Front) (l : k < frontCount) (b : Bool) (g : Front) (h : fillLine k f (take (at + n .size - at) (drop at m)) ≡ cond b (got g []) misfit) where
   there : lines (drop at m) ≡ take (at + n .size - at) (drop at m) ∷ lines (drop (at + n .next) m)
   there = let s : at + n .size - at ≡ n .size = omega arith in rw s (line-lines m at w e)
 

@@ -20,14 +20,23 @@ use Rattle.frontlines.specs.Addresses.{makeAddresses, readAddresses, addressesP
 use Rattle.frontlines.specs.Filing.{realFiling, readFiling, filingPieces}
 use Rattle.frontlines.specs.Heading.{readHeading, readSerialLine, readAerodrome, headingPieces, serialPieces, aerodromePieces}
 use Rattle.front.specs.declared.Front.{Front}
-use Rattle.front.specs.Code.Front.{blankFront, withAddresses, withFiling, withHeading, withSerial, withAerodrome, frontCount, fillLine, lineRefusal, nextLine, fillLines, noFront, frontAnswer, FrontHeld, frontText}
+use Rattle.front.specs.Code.Front.{blankFront, withAddresses, withFiling, withHeading, withSerial, withAerodrome, frontCount, fillLine, lineRefusal}
+use Rattle.front.specs.Code.Front.{nextLine, fillLines, noFront, frontAnswer, FrontHeld, frontText}
 
 abbrev title : Title
 title = record { region = bytes "XQ"; serial = 7; aerodrome = bytes "XQAA" }
 
 -- the front of the message below
 abbrev full : Front
-full = record { addresses = makeAddresses 1 (bytes "XQAAYNYX" ∷ []); filing = record { time = 120645; originator = bytes "XQAAYNYX" }; title = title; time = 1120640; serial = 7; aerodrome = bytes "XQAA" }
+full = record {
+  addresses = makeAddresses 1 (bytes "XQAAYNYX" ∷ []);
+  filing = record { time = 120645; originator = bytes "XQAAYNYX" };
+  title = title;
+  time =
+      1120640;
+  serial = 7;
+  aerodrome = bytes "XQAA";
+}
 
 abbrev message : List ℕ
 message = bytes "GG XQAAYNYX" ++ (10 ∷ bytes "120645 XQAAYNYX") ++ (10 ∷ bytes "SWXQ0007 XQAA 01120640") ++ (10 ∷ bytes "(SNOWTAM 0007") ++ (10 ∷ bytes "XQAA")
@@ -41,7 +50,15 @@ abbrev read : List ℕ → Out (Front × List (List ℕ))
 read m = fillLines frontCount 0 blankFront (lines m)
 
 pub record Fronts : Type 0 where
-  blank : blankFront ≡ record { addresses = record { priority = 0; count = 0; letters = replicate 64 0 }; filing = record { time = 0; originator = replicate 8 0 }; title = record { region = 0 ∷ 0 ∷ []; serial = 0; aerodrome = replicate 4 0 }; time = 0; serial = 0; aerodrome = replicate 4 0 }
+  blank : blankFront ≡ record {
+    addresses = record { priority = 0; count = 0; letters = replicate 64 0 };
+    filing =
+        record { time = 0; originator = replicate 8 0 };
+    title = record { region = 0 ∷ 0 ∷ []; serial = 0; aerodrome = replicate 4 0 };
+    time = 0;
+    serial = 0;
+    aerodrome = replicate 4 0;
+  }
   first : line 0 "GG XQAAYNYX" ≡ got (withAddresses blankFront (full .addresses)) []
   second : line 1 "120645 XQAAYNYX" ≡ got (withFiling blankFront (full .filing)) []
   third : line 2 "SWXQ0007 XQAA 01120640" ≡ got (withHeading blankFront (record { title = title; time = 1120640 })) []
@@ -57,5 +74,21 @@ pub record Fronts : Type 0 where
   written : frontText (full .addresses) (full .filing) title 1120640 ≡ message
 
 pub fronts : Fronts
-unfolding _and_ spell skip readText readMany readCount readName readDigits digits slots pastSlots flat lines isShortMonth daysOf realDay realClock realTime isLetters readAddresses addressesPieces realFiling readFiling filingPieces readHeading readSerialLine readAerodrome headingPieces serialPieces aerodromePieces fillLine lineRefusal nextLine fillLines frontAnswer
-fronts = record { blank = refl; first = refl; second = refl; third = refl; fourth = refl; fifth = refl; refusals = refl; all-lines = refl; missing = refl; answered = refl; refused = refl; held = record { within = lit≤ tt; says = refl; place = refl; blank = refl }; written = refl }
+unfolding _and_ spell skip readText readMany readCount readName readDigits digits slots pastSlots flat lines isShortMonth daysOf realDay realClock realTime
+    isLetters readAddresses addressesPieces realFiling readFiling filingPieces readHeading readSerialLine readAerodrome headingPieces serialPieces
+    aerodromePieces fillLine lineRefusal nextLine fillLines frontAnswer
+fronts = record {
+  blank = refl;
+  first = refl;
+  second = refl;
+  third = refl;
+  fourth = refl;
+  fifth = refl;
+  refusals = refl;
+  all-lines = refl;
+  missing = refl;
+  answered = refl;
+  refused = refl;
+  held = record { within = lit≤ tt; says = refl; place = refl; blank = refl };
+  written = refl;
+}

@@ -2,14 +2,14 @@
 use Prim.Native.Nat.{ℕ, zero, suc, _+_, _*_, _-_, _≤_}
 use mathlib.Core.Path.{_≡_, refl, sym, _∙_, ap}
 use mathlib.Core.List.{List, [], _∷_}
-use mathlib.Core.Bool.{Bool, true, false}
+use mathlib.Core.Bool.{cond, Bool, true, false}
 use native.Mathlib.Omega.{arith}
 use native.Mathlib.Nat.{suc-mul}
 use lib.Dec.{eqb, eqb·zero-suc, eqb·suc-suc}
 use lib.ListN.{length, take, drop, length-drop, drop-of-length-le}
 use lib.Seq.{drop-cons, drop-drop, take-all}
 use borrow.Author.Tests.{eqb-true, eqb-false}
-use Rattle.text.specs.Choice.{pick, _and_, all}
+use Rattle.text.specs.Choice.{_and_, all}
 use Rattle.text.specs.Read.{Got, misfit, got, guard, andThen, orElse, readGap, whole, readWord}
 use Rattle.text.specs.Names.{isLetter, inClass, readCount}
 use Rattle.text.specs.Arrays.{slots, pastSlots}
@@ -95,10 +95,10 @@ unfolding isLetters _and_
 other-length n m u = rw u
 
 -- a line of n letters
-pub letters-whole : (n : ℕ) (m : List ℕ) → whole (readLetters n m) ≡ pick (isLetters n m) (got m []) misfit
+pub letters-whole : (n : ℕ) (m : List ℕ) → whole (readLetters n m) ≡ cond (isLetters n m) (got m []) misfit
 letters-whole n m = go (isGot (readLetters n m)) refl (eqb (length m) n) refl
   where
-    go : (t : Bool) → isGot (readLetters n m) ≡ t → (u : Bool) → eqb (length m) n ≡ u → whole (readLetters n m) ≡ pick (isLetters n m) (got m []) misfit
+    go : (t : Bool) → isGot (readLetters n m) ≡ t → (u : Bool) → eqb (length m) n ≡ u → whole (readLetters n m) ≡ cond (isLetters n m) (got m []) misfit
     go true f true u =
         let e = eqb-true (length m) n u in
         rw (sym (letters-test n m e) ∙ f, count-stand isLetter n m f .is, take-all n m (omega arith), drop-of-length-le m {i = n} (omega arith))

@@ -2,11 +2,10 @@
 use Prim.Native.Nat.{ℕ, _<_, _≤_}
 use mathlib.Core.Path.{_≡_, refl, sym, _∙_, ap}
 use mathlib.Core.List.{List}
-use mathlib.Core.Bool.{Bool, true, false}
+use mathlib.Core.Bool.{cond, Bool, true, false}
 use native.Mathlib.Omega.{arith}
 use lib.ListN.{length, drop, drop-of-length-le}
 use lib.Seq.{drop-cons}
-use Rattle.text.specs.Choice.{pick}
 use Rattle.text.specs.Read.{Got, misfit, got, guard, andThen, whole}
 use Rattle.text.specs.Code.Held.{Held, none}
 use Rattle.text.specs.declared.Found.{Found}
@@ -33,20 +32,20 @@ module _ (p : ℕ → Bool) {m : List ℕ} {g : Got ℕ} {f : Found} (h : Held m
     test-fails q = missed (rw (got-of h t, q))
 
     pub test-holds : p (f .value) ≡ true → Held m tested f
-    test-holds q = record { within = h .within; says = rw (got-of h t, q) (sym (ap (λ (b : Bool). pick b (got (f .value) (drop (f .next) m)) misfit) t)); blank = h .blank }
+    test-holds q = record { within = h .within; says = rw (got-of h t, q) (sym (ap (λ (b : Bool). cond b (got (f .value) (drop (f .next) m)) misfit) t)); blank = h .blank }
 
 -- an answer that ends with the line, and one that does not
 module _ {m : List ℕ} {g : Got ℕ} {f : Found} (h : Held m g f) where
   pub whole-held : length m ≤ f .next → Held m (whole g) f
   whole-held l = held-as (ap whole (h .says) ∙ go (f .fits) ∙ sym (h .says)) h
     where
-      go : (b : Bool) → whole (pick b (got (f .value) (drop (f .next) m)) misfit) ≡ pick b (got (f .value) (drop (f .next) m)) misfit
+      go : (b : Bool) → whole (cond b (got (f .value) (drop (f .next) m)) misfit) ≡ cond b (got (f .value) (drop (f .next) m)) misfit
       go true = rw (drop-of-length-le m l)
       go false = refl
 
   pub whole-left : f .next < length m → Held m (whole g) none
   whole-left l = missed (rw (h .says) (go (f .fits)))
     where
-      go : (b : Bool) → whole (pick b (got (f .value) (drop (f .next) m)) misfit) ≡ misfit
+      go : (b : Bool) → whole (cond b (got (f .value) (drop (f .next) m)) misfit) ≡ misfit
       go true = rw (drop-cons m (f .next) 0 l)
       go false = refl

@@ -2,12 +2,11 @@
 use Prim.Native.Nat.{ℕ, _-_, _<_, _≤_, _^_}
 use mathlib.Core.Path.{_≡_, refl, _∙_, ap}
 use mathlib.Core.List.{List, [], _∷_, append-nil}
-use mathlib.Core.Bool.{Bool, true, false}
+use mathlib.Core.Bool.{cond, Bool, true, false}
 use native.Mathlib.Omega.{arith}
 use lib.Dec.{eqb}
 use lib.ListN.{length, take, drop, replicate, length-drop, length-take, drop-of-length-le}
 use lib.Seq.{sets, drop-drop}
-use Rattle.text.specs.Choice.{pick}
 use Rattle.text.specs.Piece.{bytes}
 use Rattle.text.specs.Read.{misfit, got, andThen, readText, readGap, whole, readWord}
 use Rattle.text.specs.Names.{inClass, readCount}
@@ -67,7 +66,7 @@ module _ (m : List ℕ) (w : Found) (h : Held m (readWord (bytes "SW") 0 m) w) w
 
   module _ (t : w .fits ≡ true) where
     stands : readText (bytes "SW") m ≡ got tt (drop 2 m)
-    stands = let e = held-text (bytes "SW") m 0 h ∙ ap (λ (b : Bool). pick b (got tt (drop (w .next) m)) misfit) t in e ∙ ap (got tt) (sw-at m e)
+    stands = let e = held-text (bytes "SW") m 0 h ∙ ap (λ (b : Bool). cond b (got tt (drop (w .next) m)) misfit) t in e ∙ ap (got tt) (sw-at m e)
 
     pub no-region : isGot (readCount (inClass 0) 2 (drop 2 m)) ≡ false → Designated m none
     no-region f = record { within = omega arith; says = rw (stands, letters-off 2 (drop 2 m) f) }
@@ -80,7 +79,7 @@ module _ (m : List ℕ) (w : Found) (h : Held m (readWord (bytes "SW") 0 m) w) w
           says = rw (stands, s .is, drop-drop 2 2 m, n .says) (go (r .fits));
         }
       where
-        go : (b : Bool) → andThen {B = List ℕ × ℕ} (pick b (got (r .value) (drop (r .next) m)) misfit) (λ n k. got (take 2 (drop 2 m), n) k) ≡ pick b (got (take 2 (drop 2 m), r .value) (drop (r .next) m)) misfit
+        go : (b : Bool) → andThen {B = List ℕ × ℕ} (cond b (got (r .value) (drop (r .next) m)) misfit) (λ n k. got (take 2 (drop 2 m), n) k) ≡ cond b (got (take 2 (drop 2 m), r .value) (drop (r .next) m)) misfit
         go true = refl
         go false = refl
 
@@ -111,7 +110,7 @@ module _ (m : List ℕ) where
 pub undesignated : {m : List ℕ} {r : Found} → Designated m r → r .fits ≡ false → readDesignator m ≡ misfit
 undesignated h t = h .says ∙ rw t
 
--- what a designator that isGot says
+-- what a designator that fits says
 module _ {m : List ℕ} {r : Found} (h : Designated m r) (t : r .fits ≡ true) where
   pub designated : readDesignator m ≡ got (take 2 (drop 2 m), r .value) (drop (r .next) m)
   designated = h .says ∙ rw t

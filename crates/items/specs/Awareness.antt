@@ -1,10 +1,10 @@
 -- The awareness line: up to 32 items in letter order, with what may repeat (document 01, "Awareness items").
 use Prim.Native.Nat.{ℕ}
 use mathlib.Core.List.{List, [], _∷_}
-use mathlib.Core.Bool.{Bool, true, false, not}
+use mathlib.Core.Bool.{cond, Bool, true, false, not}
 use lib.Dec.{eqb, leb, ltb}
 use lib.ListN.{length}
-use Rattle.text.specs.Choice.{pick, _and_, all, sameBytes}
+use Rattle.text.specs.Choice.{_and_, all, sameBytes}
 use Rattle.text.specs.Piece.{Piece, loose, layAll, _then_}
 use Rattle.text.specs.Read.{Got, got, whole, readSeq, readAs, readIf, readLoose, readMany}
 use Rattle.text.specs.Arrays.{isZero}
@@ -23,11 +23,11 @@ otherApron a b = isNamed a and isNamed b and not (sameBytes (a .name) (b .name))
 
 -- two items of one letter: "I, K, L, M and O once for a runway", "J, N and P stand at most once"
 unfoldable pub mayRepeat : Item → Item → Bool
-mayRepeat a b = pick (onRunway (a .letter)) (not (sameRunway a b)) (pick (eqb (a .letter) letterR) (otherApron a b) false)
+mayRepeat a b = cond (onRunway (a .letter)) (not (sameRunway a b)) (cond (eqb (a .letter) letterR) (otherApron a b) false)
 
 -- b may stand somewhere behind a: "in letter order"
 unfoldable pub mayFollow : Item → Item → Bool
-mayFollow a b = pick (eqb (a .letter) (b .letter)) (mayRepeat a b) (ltb (a .letter) (b .letter))
+mayFollow a b = cond (eqb (a .letter) (b .letter)) (mayRepeat a b) (ltb (a .letter) (b .letter))
 
 -- a may stand before i
 unfoldable pub mayPrecede : Item → Item → Bool

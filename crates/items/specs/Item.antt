@@ -1,10 +1,10 @@
 -- An awareness item: what each of its fields may hold, by the item's letter (document 01, "Awareness items").
 use Prim.Native.Nat.{ℕ, zero, suc}
 use mathlib.Core.List.{List, [], _∷_}
-use mathlib.Core.Bool.{Bool, true, not}
+use mathlib.Core.Bool.{cond, Bool, true, not}
 use lib.Dec.{eqb, leb}
 use lib.ListN.{length, take, drop}
-use Rattle.text.specs.Choice.{pick, _and_, all, member, headIs, sameBytes}
+use Rattle.text.specs.Choice.{_and_, all, member, headIs, sameBytes}
 use Rattle.text.specs.Piece.{bytes}
 use Rattle.text.specs.Names.{isLetter, isName, run, past}
 use Rattle.text.specs.Arrays.{isZero, slots}
@@ -69,11 +69,11 @@ behindName f = past isName f
 
 -- "in item I its number may be 01 to 36"
 abbrev pub highestFor : ℕ → ℕ
-highestFor l = pick (eqb l letterI) 36 18
+highestFor l = cond (eqb l letterI) 36 18
 
 -- an item names a runway if its letter does
 unfoldable pub runwayFits : Item → Bool
-runwayFits i = pick (onRunway (i .letter)) (validRunway (highestFor (i .letter)) (i .number) (i .side)) (eqb (i .number) 0 and eqb (i .side) 0)
+runwayFits i = cond (onRunway (i .letter)) (validRunway (highestFor (i .letter)) (i .number) (i .side)) (eqb (i .number) 0 and eqb (i .side) 0)
 
 -- from the one bound to the other
 abbrev pub isBetween : ℕ → ℕ → ℕ → Bool
@@ -82,17 +82,17 @@ isBetween low high x = leb low x and leb x high
 -- I: "n 100 to 9999"; M: "01 to 99"
 unfoldable pub amountFits : Item → Bool
 amountFits i =
-    pick (eqb (i .letter) letterI) (isBetween 100 9999 (i .amount))
-    (pick (eqb (i .letter) letterM) (isBetween 1 99 (i .amount))
+    cond (eqb (i .letter) letterI) (isBetween 100 9999 (i .amount))
+    (cond (eqb (i .letter) letterM) (isBetween 1 99 (i .amount))
     (eqb (i .amount) 0))
 
 -- M: "L, R or LR", 1 to 3
 unfoldable pub edgeFits : Item → Bool
-edgeFits i = pick (eqb (i .letter) letterM) (isBetween 1 3 (i .edge)) (eqb (i .edge) 0)
+edgeFits i = cond (eqb (i .letter) letterM) (isBetween 1 3 (i .edge)) (eqb (i .edge) 0)
 
 -- N names taxiways, P names some or none (ALL), no other does
 unfoldable pub countFits : Item → Bool
-countFits i = pick (eqb (i .letter) letterN) (leb 1 (i .count)) (pick (eqb (i .letter) letterP) true (eqb (i .count) 0))
+countFits i = cond (eqb (i .letter) letterN) (leb 1 (i .count)) (cond (eqb (i .letter) letterP) true (eqb (i .count) 0))
 
 -- "1 to 8 taxiways", three bytes for each
 abbrev pub mostTaxiways : ℕ
@@ -122,7 +122,8 @@ isNew w (v ∷ vs) = not (sameBytes w v) and isNew w vs
 -- n taxiways at the front of an array, "no taxiway twice within an item", and zeros behind them
 unfoldable pub slotsFit : ℕ → List ℕ → Bool
 slotsFit zero f = all isZero f
-slotsFit (suc n) f = validSlot (take taxiwaySize f) and isNew (take taxiwaySize f) (slots taxiwaySize n (drop taxiwaySize f)) and slotsFit n (drop taxiwaySize f)
+slotsFit (suc n) f = validSlot (take taxiwaySize f) and isNew (take taxiwaySize f) (slots taxiwaySize n (drop taxiwaySize f))
+    and slotsFit n (drop taxiwaySize f)
 
 -- up to eight taxiways in their slots
 unfoldable pub taxiwaysFit : ℕ → List ℕ → Bool
@@ -134,7 +135,7 @@ apronSize = 16
 
 -- R names an apron or none (ALL), no other does; zeros behind the name
 unfoldable pub nameFits : ℕ → List ℕ → Bool
-nameFits l f = eqb (length f) apronSize and all isZero (pick (eqb l letterR) (behindName f) f)
+nameFits l f = eqb (length f) apronSize and all isZero (cond (eqb l letterR) (behindName f) f)
 
 -- the letter is one of the nine, and its numbers are such as it takes
 unfoldable pub numbersFit : Item → Bool

@@ -1,9 +1,9 @@
 -- The texts of the items: the table of document 01, "Awareness items".
 use Prim.Native.Nat.{ℕ}
 use mathlib.Core.List.{List, [], _∷_, map}
-use mathlib.Core.Bool.{Bool}
+use mathlib.Core.Bool.{cond, Bool}
 use lib.Dec.{eqb}
-use Rattle.text.specs.Choice.{pick, headIs}
+use Rattle.text.specs.Choice.{headIs}
 use Rattle.text.specs.Piece.{Piece, bytes, words, spell, verbatim, space, layAll, _then_}
 use Rattle.text.specs.Names.{isName, nameAt}
 use Rattle.text.specs.Numbers.{digits, number}
@@ -38,7 +38,7 @@ bankText i = ofRunway i (bytes " SNOWBANK ") then spell (edgeName (i .edge)) the
 
 -- no taxiway of P is ALL
 abbrev pub poorTaxiways : Item → List Piece
-poorTaxiways i = pick (eqb (i .count) 0) (words "ALL TWY POOR") (ofTaxiways i (bytes " POOR"))
+poorTaxiways i = cond (eqb (i .count) 0) (words "ALL TWY POOR") (ofTaxiways i (bytes " POOR"))
 
 -- an item R that names an apron
 abbrev pub isNamed : Item → Bool
@@ -46,19 +46,19 @@ isNamed i = headIs isName (i .name)
 
 -- no name of R is ALL
 abbrev pub poorApron : Item → List Piece
-poorApron i = pick (isNamed i) (words "APRON " then verbatim (nameAtFront (i .name)) then words " POOR") (words "ALL APRON POOR")
+poorApron i = cond (isNamed i) (words "APRON " then verbatim (nameAtFront (i .name)) then words " POOR") (words "ALL APRON POOR")
 
 -- the text of each item, by its letter, without the full stop
 unfoldable pub itemText : Item → List Piece
 itemText i =
-    pick (eqb (i .letter) letterI) (lengthText i)
-    (pick (eqb (i .letter) letterJ) (words "DRIFTING SNOW")
-    (pick (eqb (i .letter) letterK) (ofRunway i (bytes " LOOSE SAND"))
-    (pick (eqb (i .letter) letterL) (ofRunway i (bytes " CHEMICALLY TREATED"))
-    (pick (eqb (i .letter) letterM) (bankText i)
-    (pick (eqb (i .letter) letterN) (ofTaxiways i (bytes " SNOWBANK"))
-    (pick (eqb (i .letter) letterO) (ofRunway i (bytes " ADJ SNOWBANK"))
-    (pick (eqb (i .letter) letterP) (poorTaxiways i)
+    cond (eqb (i .letter) letterI) (lengthText i)
+    (cond (eqb (i .letter) letterJ) (words "DRIFTING SNOW")
+    (cond (eqb (i .letter) letterK) (ofRunway i (bytes " LOOSE SAND"))
+    (cond (eqb (i .letter) letterL) (ofRunway i (bytes " CHEMICALLY TREATED"))
+    (cond (eqb (i .letter) letterM) (bankText i)
+    (cond (eqb (i .letter) letterN) (ofTaxiways i (bytes " SNOWBANK"))
+    (cond (eqb (i .letter) letterO) (ofRunway i (bytes " ADJ SNOWBANK"))
+    (cond (eqb (i .letter) letterP) (poorTaxiways i)
     (poorApron i))))))))
 
 -- "each ended by a full stop"

@@ -1,10 +1,10 @@
 -- Items and plain language as a record holds them: in an array, with zeros past the count.
 use Prim.Native.Nat.{ℕ}
 use mathlib.Core.List.{List}
-use mathlib.Core.Bool.{Bool, true}
+use mathlib.Core.Bool.{cond, Bool, true}
 use lib.Dec.{eqb, leb}
 use lib.ListN.{length, take, drop}
-use Rattle.text.specs.Choice.{pick, _and_, all, isEmpty}
+use Rattle.text.specs.Choice.{_and_, all, isEmpty}
 use Rattle.text.specs.Arrays.{pad, isZero}
 use Rattle.items.specs.declared.Item.{Item}
 use Rattle.items.specs.Awareness.{mostItems, validItems, blankItem, isBlankItem}
@@ -34,8 +34,9 @@ holdsItems i = leb (i .count) mostItems and eqb (length (i .items)) mostItems an
 
 -- no plain language, or plain language that is valid
 unfoldable pub noneOrLanguage : List ℕ → Bool
-noneOrLanguage l = pick (isEmpty l) true (validLanguage l)
+noneOrLanguage l = cond (isEmpty l) true (validLanguage l)
 
 -- no plain language or valid one, and zeros past its length
 unfoldable pub holdsLanguage : Language → Bool
-holdsLanguage l = leb (l .length) mostLanguage and eqb (length (l .bytes)) mostLanguage and noneOrLanguage (languageOf l) and all isZero (drop (l .length) (l .bytes))
+holdsLanguage l = leb (l .length) mostLanguage and eqb (length (l .bytes)) mostLanguage and noneOrLanguage (languageOf l)
+    and all isZero (drop (l .length) (l .bytes))

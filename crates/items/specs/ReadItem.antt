@@ -1,10 +1,10 @@
 -- Reading an awareness item: its opening words, and then what they call for.
 use Prim.Native.Nat.{ℕ}
 use mathlib.Core.List.{List, [], _∷_, map}
-use mathlib.Core.Bool.{Bool, not}
+use mathlib.Core.Bool.{cond, Bool, not}
 use lib.Dec.{eqb, leb}
 use lib.ListN.{length, replicate}
-use Rattle.text.specs.Choice.{pick, isEmpty, _and_}
+use Rattle.text.specs.Choice.{isEmpty, _and_}
 use Rattle.text.specs.Piece.{bytes}
 use Rattle.text.specs.Read.{Got, readNothing, readSeq, readBind, readAs, readIf, readGap, readBefore, readMany}
 use Rattle.text.specs.Names.{isName, nameAt, readName, readRun}
@@ -12,7 +12,8 @@ use Rattle.text.specs.Numbers.{readDigits, readNumber}
 use Rattle.text.specs.Arrays.{pad, flat}
 use Rattle.runway.specs.Runway.{readRunway}
 use Rattle.items.specs.declared.Item.{Item}
-use Rattle.items.specs.Item.{validItem, isTaxiway, mostTaxiways, taxiwaySize, taxiwayBytes, apronSize, letterI, letterJ, letterK, letterL, letterM, letterN, letterO, letterP, letterR}
+use Rattle.items.specs.Item.{validItem, isTaxiway, mostTaxiways, taxiwaySize, taxiwayBytes, apronSize, letterI, letterJ, letterK, letterL, letterM}
+use Rattle.items.specs.Item.{letterN, letterO, letterP, letterR}
 use Rattle.items.specs.ItemText.{edgeName}
 
 -- the words that an item opens with, by number
@@ -49,10 +50,10 @@ sayings = letterI ∷ letterK ∷ letterL ∷ letterM ∷ letterO ∷ []
 -- the words of each
 abbrev pub saying : ℕ → List ℕ
 saying l =
-    pick (eqb l letterI) (bytes " REDUCED TO")
-    (pick (eqb l letterK) (bytes " LOOSE SAND")
-    (pick (eqb l letterL) (bytes " CHEMICALLY TREATED")
-    (pick (eqb l letterM) (bytes " SNOWBANK")
+    cond (eqb l letterI) (bytes " REDUCED TO")
+    (cond (eqb l letterK) (bytes " LOOSE SAND")
+    (cond (eqb l letterL) (bytes " CHEMICALLY TREATED")
+    (cond (eqb l letterM) (bytes " SNOWBANK")
     (bytes " ADJ SNOWBANK"))))
 
 -- and of taxiways
@@ -61,7 +62,7 @@ taxiSayings = letterN ∷ letterP ∷ []
 
 -- the words of each
 abbrev pub taxiSaying : ℕ → List ℕ
-taxiSaying l = pick (eqb l letterN) (bytes " SNOWBANK") (bytes " POOR")
+taxiSaying l = cond (eqb l letterN) (bytes " SNOWBANK") (bytes " POOR")
 
 -- the edges as they are tried: LR before L, which it begins with
 abbrev pub edges : List ℕ
@@ -81,13 +82,23 @@ readNeither = readAs (λ _. (0, 0)) readNothing
 
 -- what the letter calls for
 unfoldable pub readDetail : ℕ → List ℕ → Got (ℕ × ℕ)
-readDetail letter = pick (eqb letter letterI) readLength (pick (eqb letter letterM) readBank readNeither)
+readDetail letter = cond (eqb letter letterI) readLength (cond (eqb letter letterM) readBank readNeither)
 
 -- an item of a runway, its letter, edge and amount; every other field is zero
 abbrev pub runwayItem : (ℕ × ℕ) × (ℕ × (ℕ × ℕ)) → Item
 runwayItem p =
     let ((number, side), (letter, (edge, amount))) = p in
-    record { letter = letter; number = number; side = side; amount = amount; edge = edge; count = 0; taxiways = replicate taxiwayBytes 0; name = replicate apronSize 0 }
+    record {
+      letter = letter;
+      number = number;
+      side = side;
+      amount = amount;
+      edge = edge;
+      count = 0;
+      taxiways = replicate taxiwayBytes 0;
+      name =
+          replicate apronSize 0;
+    }
 
 -- an item of fixed words
 abbrev pub bareItem : ℕ → Item
@@ -97,11 +108,31 @@ bareItem l = runwayItem ((0, 0), (l, (0, 0)))
 abbrev pub taxiItem : List (List ℕ) × ℕ → Item
 taxiItem p =
     let (names, letter) = p in
-    record { letter = letter; number = 0; side = 0; amount = 0; edge = 0; count = length names; taxiways = pad taxiwayBytes 0 (flat (map (pad taxiwaySize 0) names)); name = replicate apronSize 0 }
+    record {
+      letter = letter;
+      number = 0;
+      side = 0;
+      amount = 0;
+      edge = 0;
+      count = length names;
+      taxiways =
+          pad taxiwayBytes 0 (flat (map (pad taxiwaySize 0) names));
+      name = replicate apronSize 0;
+    }
 
 -- the item of one apron
 abbrev pub apronItem : List ℕ → Item
-apronItem name′ = record { letter = letterR; number = 0; side = 0; amount = 0; edge = 0; count = 0; taxiways = replicate taxiwayBytes 0; name = pad apronSize 0 name′ }
+apronItem name′ = record {
+  letter = letterR;
+  number = 0;
+  side = 0;
+  amount = 0;
+  edge = 0;
+  count = 0;
+  taxiways = replicate taxiwayBytes 0;
+  name =
+      pad apronSize 0 name′;
+}
 
 -- one taxiway
 unfoldable pub readTaxiway : List ℕ → Got (List ℕ)
@@ -142,11 +173,11 @@ readBareForm l = readAs (λ _. bareItem l) readNothing
 -- what stands behind each opening
 unfoldable pub readForm : ℕ → List ℕ → Got Item
 readForm k =
-    pick (eqb k opensRunway) readRunwayForm
-    (pick (eqb k opensDrifting) (readBareForm letterJ)
-    (pick (eqb k opensTaxiways) readTaxiForm
-    (pick (eqb k opensAllTaxiways) (readBareForm letterP)
-    (pick (eqb k opensApron) readApronForm
+    cond (eqb k opensRunway) readRunwayForm
+    (cond (eqb k opensDrifting) (readBareForm letterJ)
+    (cond (eqb k opensTaxiways) readTaxiForm
+    (cond (eqb k opensAllTaxiways) (readBareForm letterP)
+    (cond (eqb k opensApron) readApronForm
     (readBareForm letterR)))))
 
 -- an item without its full stop

@@ -2,7 +2,7 @@
 use Prim.Native.Nat.{ℕ, _+_}
 use mathlib.Core.List.{List, [], _∷_, _++_}
 use lib.Dec.{eqb}
-use Rattle.text.specs.Choice.{pick}
+use mathlib.Core.Bool.{cond}
 use Rattle.text.specs.Piece.{bytes, canonical}
 use Rattle.text.specs.Numbers.{number}
 use Rattle.row.specs.declared.Row.{Row}
@@ -37,7 +37,7 @@ refusedLine n = bytes "REFUSED" ++ (counted n ++ (10 ∷ []))
 
 -- the first line, and for a record "then the canonical text"
 unfoldable pub listed : Reading → List ℕ
-listed a = pick (eqb (a .refusal) 0) (acceptedLine (a .«record») ++ noticeText (a .«record»)) (refusedLine (a .refusal))
+listed a = cond (eqb (a .refusal) 0) (acceptedLine (a .«record») ++ noticeText (a .«record»)) (refusedLine (a .refusal))
 
 -- what the lister prints of a message
 unfoldable pub listing : List ℕ → List ℕ

@@ -25,10 +25,12 @@ use Rattle.frontlines.specs.Filing.{realFiling, filingPieces, readFiling}
 use Rattle.frontlines.specs.Heading.{headingPieces, readHeading, serialPieces, readSerialLine, aerodromePieces, readAerodrome}
 use Rattle.frontlines.specs.Letters.{isLetters}
 use Rattle.items.specs.Awareness.{sameRunway, otherApron, mayRepeat, mayFollow, inOrder, awarenessPieces, readAwareness, wholeAwareness}
-use Rattle.items.specs.Item.{onRunway, onTaxiways, runwayFits, amountFits, edgeFits, countFits, isTaxiway, validSlot, isNew, slotsFit, taxiwaysFit, nameFits, numbersFit, validItem}
+use Rattle.items.specs.Item.{onRunway, onTaxiways, runwayFits, amountFits, edgeFits, countFits, isTaxiway, validSlot, isNew, slotsFit, taxiwaysFit}
+use Rattle.items.specs.Item.{nameFits, numbersFit, validItem}
 use Rattle.items.specs.ItemText.{itemText, itemPieces}
 use Rattle.items.specs.Language.{lastIs, validLanguage, wholeLanguage}
-use Rattle.items.specs.ReadItem.{readLength, readBank, readNeither, readDetail, readTaxiway, readTaxiways, readApron, readRunwayForm, readTaxiForm, readApronForm, readBareForm, readForm, readBody, readItem}
+use Rattle.items.specs.ReadItem.{readLength, readBank, readNeither, readDetail, readTaxiway, readTaxiways, readApron, readRunwayForm, readTaxiForm}
+use Rattle.items.specs.ReadItem.{readApronForm, readBareForm, readForm, readBody, readItem}
 use Rattle.body.specs.Rows.{isAmong, newRunways, latestOf, latestFrom, latest, readRows}
 use Rattle.record.specs.Notice.{noticeLines, notice, noticeText}
 use Rattle.record.specs.Answer.{mismatch}
@@ -50,5 +52,14 @@ pub record Tables : Type 0 where
   long : map listing (spaces 4096 ∷ spaces 4097 ∷ []) ≡ message ("REFUSED 2" ∷ []) ∷ message ("REFUSED 1" ∷ []) ∷ []
 
 pub tables : Tables
-unfolding slots flat _and_ lines closed allButLast ended run past isMark readCount readName readDigits digits spell skip readText readMany validRunway isShortMonth daysOf realDay realClock realTime later isContaminant isDeep isCoverage validCoverage leastDepth isReported validDepth validThird measurePieces readMeasure readCoverage readDescription thirdPieces readThird highest readGroup readFull readShort readWidth readRow threeThat validRow isBare isSix isDry isShort middlePieces widthPieces rowPieces addressesPieces readAddresses realFiling filingPieces readFiling headingPieces readHeading serialPieces readSerialLine aerodromePieces readAerodrome isLetters sameRunway otherApron mayRepeat mayFollow inOrder awarenessPieces readAwareness wholeAwareness onRunway onTaxiways runwayFits amountFits edgeFits countFits isTaxiway validSlot isNew slotsFit taxiwaysFit nameFits numbersFit validItem itemText itemPieces lastIs validLanguage wholeLanguage readLength readBank readNeither readDetail readTaxiway readTaxiways readApron readRunwayForm readTaxiForm readApronForm readBareForm readForm readBody readItem isAmong newRunways latestOf latestFrom latest readRows noticeLines notice noticeText mismatch agreeing readNotice reading Rows.sameRunway table1 isShallow firstFitting canHold allows agrees disagrees disagreements disagreeingThirds counted acceptedLine refusedLine listed listing
+unfolding slots flat _and_ lines closed allButLast ended run past isMark readCount readName readDigits digits spell skip readText readMany validRunway
+    isShortMonth daysOf realDay realClock realTime later isContaminant isDeep isCoverage validCoverage leastDepth isReported validDepth validThird
+    measurePieces readMeasure readCoverage readDescription thirdPieces readThird highest readGroup readFull readShort readWidth readRow threeThat validRow
+    isBare isSix isDry isShort middlePieces widthPieces rowPieces addressesPieces readAddresses realFiling filingPieces readFiling headingPieces readHeading
+    serialPieces readSerialLine aerodromePieces readAerodrome isLetters sameRunway otherApron mayRepeat mayFollow inOrder awarenessPieces readAwareness
+    wholeAwareness onRunway onTaxiways runwayFits amountFits edgeFits countFits isTaxiway validSlot isNew slotsFit taxiwaysFit nameFits numbersFit validItem
+    itemText itemPieces lastIs validLanguage wholeLanguage readLength readBank readNeither readDetail readTaxiway readTaxiways readApron readRunwayForm
+    readTaxiForm readApronForm readBareForm readForm readBody readItem isAmong newRunways latestOf latestFrom latest readRows noticeLines notice noticeText
+    mismatch agreeing readNotice reading Rows.sameRunway table1 isShallow firstFitting canHold allows agrees disagrees disagreements disagreeingThirds
+    counted acceptedLine refusedLine listed listing
 tables = record { accepted = refl; refused = refl; long = refl }

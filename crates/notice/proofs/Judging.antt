@@ -2,12 +2,11 @@
 use Prim.Native.Nat.{ℕ, _-_, _<_, _≤_}
 use mathlib.Core.Path.{_≡_, refl, _∙_, ap}
 use mathlib.Core.List.{List}
-use mathlib.Core.Bool.{Bool, true, false}
+use mathlib.Core.Bool.{cond, Bool, true, false}
 use native.Mathlib.Omega.{arith}
 use lib.Dec.{eqb}
 use lib.ListN.{length, take, drop}
 use borrow.Author.Tests.{eq-eqb, ne-eqb, le-leb, lt-leb}
-use Rattle.text.specs.Choice.{pick}
 use Rattle.text.specs.Code.Held.{Reached}
 use Rattle.text.specs.Lines.{lines, longest}
 use Rattle.text.specs.Laws.Held.{part-all}
@@ -39,17 +38,17 @@ settled f r x = agreeing (headingOf f) (f .serial) (f .aerodrome) (rowsOf r) (ma
 
 -- 10, 11 and 12, or the record
 agreed : (f : Front) (r : Rows) (x : Remarks) (all : Record) → all ≡ makeRecord (f .addresses) (f .filing) (f .title) (rowsOf r) x
-    → pick (eqb (partsMismatch f r) 0) (accepted all) (refused (partsMismatch f r)) ≡ result (settled f r x)
+    → cond (eqb (partsMismatch f r) 0) (accepted all) (refused (partsMismatch f r)) ≡ result (settled f r x)
 unfolding agreeing
 agreed f r x all e = go (eqb (partsMismatch f r) 0)
   where
-    go : (b : Bool) → pick b (accepted all) (refused (partsMismatch f r)) ≡ result (pick b (taken (makeRecord (f .addresses) (f .filing) (f .title) (rowsOf r) x)) (refuse (partsMismatch f r)))
+    go : (b : Bool) → cond b (accepted all) (refused (partsMismatch f r)) ≡ result (cond b (taken (makeRecord (f .addresses) (f .filing) (f .title) (rowsOf r) x)) (refuse (partsMismatch f r)))
     go true = ap accepted e
     go false = refl
 
 -- the answer to a message whose front and rows are read, and whose remarks gave this answer
 abbrev judged : Front → Rows → RemarksRead → Reading
-judged f r x = pick (eqb (lastRefusal f r (x .refusal)) 0) (accepted (recordOf f r x)) (refused (lastRefusal f r (x .refusal)))
+judged f r x = cond (eqb (lastRefusal f r (x .refusal)) 0) (accepted (recordOf f r x)) (refused (lastRefusal f r (x .refusal)))
 
 -- the remarks decide first, then 10, 11 and 12
 judged-is : (f : Front) (r : Rows) → r ≡ makeRows (rowsOf r) → (o : Out Remarks) → Numbered o → judged f r (remarksAnswer o) ≡ result (next o (settled f r))
@@ -60,7 +59,7 @@ judged-is f r kept (taken x) h = went
     whole : recordOf f r (remarksAnswer (taken x)) ≡ makeRecord (f .addresses) (f .filing) (f .title) (rowsOf r) x
     whole = λ i. record { addresses = f .addresses; filing = f .filing; title = f .title; rows = kept i; items = remarksAnswer (taken x) .items; language = remarksAnswer (taken x) .language }
 
-    went : pick (eqb (partsMismatch f r) 0) (accepted (recordOf f r (remarksAnswer (taken x)))) (refused (partsMismatch f r)) ≡ result (settled f r x)
+    went : cond (eqb (partsMismatch f r) 0) (accepted (recordOf f r (remarksAnswer (taken x)))) (refused (partsMismatch f r)) ≡ result (settled f r x)
     went = agreed f r x (recordOf f r (remarksAnswer (taken x))) whole
 
 -- the rows of the message m gave this answer
@@ -70,15 +69,15 @@ module _ (f : Front) (m : List ℕ) (r : RowsRead) (h : RowsHeld m r) where
   rows-refused n = rw (h .says, ne-eqb (r .refusal) 0 n)
 
   -- x is read of what stands behind them, from k on, and n is the refusal that is left then
-  module _ (z : r .refusal ≡ 0) {k : ℕ} (there : Reached m (drop (r .next) m) k) (x : RemarksRead) (says : x ≡ remarksAnswer (readRemarks (pick (r .closed) finished (more (lines (take (length m - k) (drop k m)))))))
+  module _ (z : r .refusal ≡ 0) {k : ℕ} (there : Reached m (drop (r .next) m) k) (x : RemarksRead) (says : x ≡ remarksAnswer (readRemarks (cond (r .closed) finished (more (lines (take (length m - k) (drop k m)))))))
       (n : ℕ) (last : n ≡ lastRefusal f (r .rows) (x .refusal)) where
-    behind : x ≡ remarksAnswer (readRemarks (pick (r .closed) finished (more (lines (drop (r .next) m)))))
-    behind = says ∙ ap (λ (p : List ℕ). remarksAnswer (readRemarks (pick (r .closed) finished (more (lines p))))) (part-all k m ∙ there .left)
+    behind : x ≡ remarksAnswer (readRemarks (cond (r .closed) finished (more (lines (drop (r .next) m)))))
+    behind = says ∙ ap (λ (p : List ℕ). remarksAnswer (readRemarks (cond (r .closed) finished (more (lines p))))) (part-all k m ∙ there .left)
 
     read-below : judged f (r .rows) x ≡ result (readBelow f (lines m))
     unfolding readBelow
     read-below =
-        let after : After = pick (r .closed) finished (more (lines (drop (r .next) m))) in
+        let after : After = cond (r .closed) finished (more (lines (drop (r .next) m))) in
         ap (judged f (r .rows)) behind ∙ rw (h .says, z) (judged-is f (r .rows) (h .kept .zeros) (readRemarks after) (remarks-numbered after))
 
     pub below-refused : (n ≡ 0 → ⊥) → refused n ≡ result (readBelow f (lines m))

@@ -24,10 +24,12 @@ use Rattle.frontlines.specs.Filing.{realFiling, filingPieces, readFiling}
 use Rattle.frontlines.specs.Heading.{headingPieces, readHeading, serialPieces, readSerialLine, aerodromePieces, readAerodrome}
 use Rattle.frontlines.specs.Letters.{isLetters}
 use Rattle.items.specs.Awareness.{sameRunway, otherApron, mayRepeat, mayFollow, inOrder, awarenessPieces, readAwareness, wholeAwareness}
-use Rattle.items.specs.Item.{onRunway, onTaxiways, runwayFits, amountFits, edgeFits, countFits, isTaxiway, validSlot, isNew, slotsFit, taxiwaysFit, nameFits, numbersFit, validItem}
+use Rattle.items.specs.Item.{onRunway, onTaxiways, runwayFits, amountFits, edgeFits, countFits, isTaxiway, validSlot, isNew, slotsFit, taxiwaysFit}
+use Rattle.items.specs.Item.{nameFits, numbersFit, validItem}
 use Rattle.items.specs.ItemText.{itemText, itemPieces}
 use Rattle.items.specs.Language.{lastIs, validLanguage, wholeLanguage}
-use Rattle.items.specs.ReadItem.{readLength, readBank, readNeither, readDetail, readTaxiway, readTaxiways, readApron, readRunwayForm, readTaxiForm, readApronForm, readBareForm, readForm, readBody, readItem}
+use Rattle.items.specs.ReadItem.{readLength, readBank, readNeither, readDetail, readTaxiway, readTaxiways, readApron, readRunwayForm, readTaxiForm}
+use Rattle.items.specs.ReadItem.{readApronForm, readBareForm, readForm, readBody, readItem}
 use Rattle.body.specs.Rows.{isAmong, newRunways, latestOf, latestFrom, latest, readRows}
 use Rattle.record.specs.Notice.{noticeLines, notice, noticeText}
 use Rattle.record.specs.Answer.{mismatch}
@@ -107,7 +109,9 @@ pub record Examples : Type 0 where
       ∷ below ("01120640 07R 6/6/6 DRY/DRY/DRY" ∷ "" ∷ "DRIFTING SNOW." ∷ "SWEPT.)" ∷ [])
       ∷ []) ≡ 4 ∷ 4 ∷ 4 ∷ 4 ∷ 4 ∷ 8 ∷ 0 ∷ 0 ∷ 0 ∷ []
   -- a ninth row
-  ninth : refusalOf (below ("01120640 01 6/6/6 DRY/DRY/DRY" ∷ "01120640 02 6/6/6 DRY/DRY/DRY" ∷ "01120640 03 6/6/6 DRY/DRY/DRY" ∷ "01120640 04 6/6/6 DRY/DRY/DRY" ∷ "01120640 05 6/6/6 DRY/DRY/DRY" ∷ "01120640 06 6/6/6 DRY/DRY/DRY" ∷ "01120640 07 6/6/6 DRY/DRY/DRY" ∷ "01120640 08 6/6/6 DRY/DRY/DRY" ∷ "01120640 09 6/6/6 DRY/DRY/DRY)" ∷ [])) ≡ 6
+  ninth : refusalOf (below ("01120640 01 6/6/6 DRY/DRY/DRY" ∷ "01120640 02 6/6/6 DRY/DRY/DRY" ∷ "01120640 03 6/6/6 DRY/DRY/DRY"
+      ∷ "01120640 04 6/6/6 DRY/DRY/DRY" ∷ "01120640 05 6/6/6 DRY/DRY/DRY" ∷ "01120640 06 6/6/6 DRY/DRY/DRY" ∷ "01120640 07 6/6/6 DRY/DRY/DRY"
+      ∷ "01120640 08 6/6/6 DRY/DRY/DRY" ∷ "01120640 09 6/6/6 DRY/DRY/DRY)" ∷ [])) ≡ 6
   -- "serials differ; aerodromes differ; heading time not the latest"
   differing : map refusalOf (
       headed "SWXQ0007 XQAA 01120640" "(SNOWTAM 0007" "XQAA"
@@ -117,5 +121,13 @@ pub record Examples : Type 0 where
       ∷ []) ≡ 0 ∷ 10 ∷ 11 ∷ 12 ∷ []
 
 pub examples : Examples
-unfolding slots flat _and_ lines closed Lines.allButLast ended run past isMark readCount readName readDigits digits spell skip readText readMany validRunway isShortMonth daysOf realDay realClock realTime later isContaminant isDeep isCoverage validCoverage leastDepth isReported validDepth validThird measurePieces readMeasure readCoverage readDescription thirdPieces readThird highest readGroup readFull readShort readWidth readRow threeThat validRow isBare isSix isDry isShort middlePieces widthPieces rowPieces addressesPieces readAddresses realFiling filingPieces readFiling headingPieces readHeading serialPieces readSerialLine aerodromePieces readAerodrome isLetters sameRunway otherApron mayRepeat mayFollow inOrder awarenessPieces readAwareness wholeAwareness onRunway onTaxiways runwayFits amountFits edgeFits countFits isTaxiway validSlot isNew slotsFit taxiwaysFit nameFits numbersFit validItem itemText itemPieces lastIs validLanguage wholeLanguage readLength readBank readNeither readDetail readTaxiway readTaxiways readApron readRunwayForm readTaxiForm readApronForm readBareForm readForm readBody readItem isAmong newRunways latestOf latestFrom latest readRows noticeLines notice noticeText mismatch agreeing readNotice reading Rows.sameRunway
+unfolding slots flat _and_ lines closed Lines.allButLast ended run past isMark readCount readName readDigits digits spell skip readText readMany validRunway
+    isShortMonth daysOf realDay realClock realTime later isContaminant isDeep isCoverage validCoverage leastDepth isReported validDepth validThird
+    measurePieces readMeasure readCoverage readDescription thirdPieces readThird highest readGroup readFull readShort readWidth readRow threeThat validRow
+    isBare isSix isDry isShort middlePieces widthPieces rowPieces addressesPieces readAddresses realFiling filingPieces readFiling headingPieces readHeading
+    serialPieces readSerialLine aerodromePieces readAerodrome isLetters sameRunway otherApron mayRepeat mayFollow inOrder awarenessPieces readAwareness
+    wholeAwareness onRunway onTaxiways runwayFits amountFits edgeFits countFits isTaxiway validSlot isNew slotsFit taxiwaysFit nameFits numbersFit validItem
+    itemText itemPieces lastIs validLanguage wholeLanguage readLength readBank readNeither readDetail readTaxiway readTaxiways readApron readRunwayForm
+    readTaxiForm readApronForm readBareForm readForm readBody readItem isAmong newRunways latestOf latestFrom latest readRows noticeLines notice noticeText
+    mismatch agreeing readNotice reading Rows.sameRunway
 examples = record { accepted = refl; rows = refl; items = refl; rewritten = refl; missing = refl; body = refl; remarks = refl; ninth = refl; differing = refl }

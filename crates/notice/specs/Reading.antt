@@ -1,9 +1,9 @@
--- Reading a message: "1 first, then readLine by readLine, where the first readLine that doesn't fit decides; 10, 11, 12 in that order at the end".
+-- Reading a message: "1 first, then line by line, where the first line that doesn't fit decides; 10, 11, 12 in that order at the end".
 use Prim.Native.Nat.{ℕ}
 use mathlib.Core.List.{List, []}
 use lib.Dec.{eqb, leb}
 use lib.ListN.{length}
-use Rattle.text.specs.Choice.{pick}
+use mathlib.Core.Bool.{cond}
 use Rattle.text.specs.Lines.{longest, lines}
 use Rattle.row.specs.declared.Row.{Row}
 use Rattle.frontlines.specs.Addresses.{readAddresses}
@@ -20,9 +20,9 @@ use Rattle.text.specs.Refusals.{tooLong, lineOneOrTwo, lineThree, outline}
 
 -- the record, where they agree
 unfoldable pub agreeing : Heading → ℕ → List ℕ → List Row → Record → Out Record
-agreeing h serial aerodrome rows r = pick (eqb (mismatch h serial aerodrome rows) 0) (taken r) (refuse (mismatch h serial aerodrome rows))
+agreeing h serial aerodrome rows r = cond (eqb (mismatch h serial aerodrome rows) 0) (taken r) (refuse (mismatch h serial aerodrome rows))
 
--- "A missing readLine 1 or 2 gives 2, a missing readLine 3 gives 3, any later one 4"
+-- "A missing line 1 or 2 gives 2, a missing line 3 gives 3, any later one 4"
 unfoldable pub readNotice : List (List ℕ) → Out Record
 readNotice ls₁ =
     readLine lineOneOrTwo readAddresses ls₁ (λ addresses ls₂.
@@ -39,6 +39,6 @@ abbrev pub result : Out Record → Reading
 result (refuse n) = refused n
 result (taken r) = accepted r
 
--- "1 first, then readLine by readLine"
+-- "1 first, then line by line"
 unfoldable pub reading : List ℕ → Reading
-reading m = pick (leb (length m) longest) (result (readNotice (lines m))) (refused tooLong)
+reading m = cond (leb (length m) longest) (result (readNotice (lines m))) (refused tooLong)

@@ -3,13 +3,12 @@
 use Prim.Native.Nat.{ℕ, _≤_}
 use mathlib.Core.Path.{_≡_, refl, sym, subst, _∙_, ap}
 use mathlib.Core.List.{List}
-use mathlib.Core.Bool.{Bool, true, false}
+use mathlib.Core.Bool.{cond, Bool, true, false}
 use mathlib.Core.Logic.{_↔_}
 use lib.Dec.{eqb, leb}
 use lib.ListN.{length}
 use borrow.Author.Tests.{eqb-true, leb-true, le-leb}
 use native.Mathlib.Omega.{arith}
-use Rattle.text.specs.Choice.{pick}
 use Rattle.text.specs.Piece.{Typing}
 use Rattle.text.specs.Lines.{lines, ended}
 use Rattle.text.specs.Laws.Typing.{canonical-typed}
@@ -35,7 +34,8 @@ pub sound : (m : List ℕ) (r : Record) → reading m ≡ accepted r → (validR
 unfolding reading notice
 sound m r e = go (leb (length m) 4096) refl e
   where
-    go : (b : Bool) → leb (length m) 4096 ≡ b → pick b (result (readNotice (lines m))) (refused 1) ≡ accepted r → (validRecord r ≡ true) × Typing (ended (noticeLines r)) m × (length m ≤ 4096)
+    go : (b : Bool) → leb (length m) 4096 ≡ b → cond b (result (readNotice (lines m))) (refused 1) ≡ accepted r
+        → (validRecord r ≡ true) × Typing (ended (noticeLines r)) m × (length m ≤ 4096)
     go false q f = let z = ap (λ x. x .refusal) f in absurd (omega arith)
     go true q f =
         let t = notice-sound (lines m) (result-took (readNotice (lines m)) (notice-numbered (lines m)) f) in
@@ -67,7 +67,7 @@ pub refused-blank : (m : List ℕ) → (reading m .refusal ≡ 0 → ⊥) → re
 unfolding reading
 refused-blank m h = go (leb (length m) 4096) (readNotice (lines m)) h
   where
-    go : (b : Bool) (o : Out Record) → (pick b (result o) (refused 1) .refusal ≡ 0 → ⊥) → pick b (result o) (refused 1) .«record» ≡ blankRecord
+    go : (b : Bool) (o : Out Record) → (cond b (result o) (refused 1) .refusal ≡ 0 → ⊥) → cond b (result o) (refused 1) .«record» ≡ blankRecord
     go true (refuse n) k = refl
     go true (taken r) k = absurd (k refl)
     go false o k = refl
@@ -109,7 +109,7 @@ pub refusal-range : (m : List ℕ) → reading m .refusal ≤ 12
 unfolding reading
 refusal-range m = go (leb (length m) 4096)
   where
-    go : (b : Bool) → pick b (result (readNotice (lines m))) (refused 1) .refusal ≤ 12
+    go : (b : Bool) → cond b (result (readNotice (lines m))) (refused 1) .refusal ≤ 12
     go true = result-low (readNotice (lines m)) (notice-numbered (lines m))
     go false = omega arith
 
@@ -126,11 +126,11 @@ pub never-invalid : (m : List ℕ) (room : ℕ) → rewriting m room .refusal �
 unfolding rewriting writing
 never-invalid m room = go (eqb (reading m .refusal) 0) refl
   where
-    answered : (k : Bool) (n : ℕ) → pick {A = Written} k (record { refusal = 0; length = n }) (unwritten 14) .refusal ≡ 13 → ⊥
+    answered : (k : Bool) (n : ℕ) → cond {A = Written} k (record { refusal = 0; length = n }) (unwritten 14) .refusal ≡ 13 → ⊥
     answered true n f = omega arith
     answered false n f = omega arith
 
-    go : (k : Bool) → eqb (reading m .refusal) 0 ≡ k → pick k (writing (reading m .«record») room) (unwritten (reading m .refusal)) .refusal ≡ 13 → ⊥
+    go : (k : Bool) → eqb (reading m .refusal) 0 ≡ k → cond k (writing (reading m .«record») room) (unwritten (reading m .refusal)) .refusal ≡ 13 → ⊥
     go true e f =
         let r = reading m .«record» in
         answered (leb (length (noticeText r)) room) (length (noticeText r)) (rw (read-valid m (reading m) refl (eqb-true (reading m .refusal) 0 e)) at f)

@@ -4,7 +4,8 @@ use mathlib.Core.Path.{_≡_}
 use mathlib.Core.List.{[], _∷_, List, _++_}
 use lib.Dec.{leb}
 use lib.ListN.{length, drop}
-use Rattle.text.specs.Choice.{_else_, firstFailing, pick}
+use Rattle.text.specs.Choice.{_else_, firstFailing}
+use mathlib.Core.Bool.{cond}
 use Rattle.record.specs.declared.Record.{Record}
 use Rattle.notice.specs.declared.Written.{Written}
 use Rattle.record.specs.Record.{validRecord}
@@ -26,8 +27,8 @@ writing r room =
 -- "Accepted writing fills exactly the text's length; later bytes stay"; a refused one touches no byte
 unfoldable pub written : Record → List ℕ → List ℕ
 written r buffer =
-    pick (validRecord r)
-    (pick (leb (length (noticeText r)) (length buffer)) (noticeText r ++ drop (length (noticeText r)) buffer) buffer)
+    cond (validRecord r)
+    (cond (leb (length (noticeText r)) (length buffer)) (noticeText r ++ drop (length (noticeText r)) buffer) buffer)
     buffer
 
 -- what a writing promises

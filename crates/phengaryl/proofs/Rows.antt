@@ -2,11 +2,11 @@
 use Prim.Native.Nat.{ℕ, _≤_}
 use mathlib.Core.Path.{_≡_, refl, sym, _∙_, ap}
 use mathlib.Core.List.{[], _∷_}
-use mathlib.Core.Bool.{Bool, true, false}
+use mathlib.Core.Bool.{cond, Bool, true, false}
 use native.Mathlib.Omega.{arith}
 use lib.Dec.{eqb, leb}
 use borrow.Author.Tests.{eqb-true, leb-true}
-use Rattle.text.specs.Choice.{pick, _and_}
+use Rattle.text.specs.Choice.{_and_}
 use Rattle.text.specs.Laws.Base.{and-1, and-2, true-false}
 use Rattle.surface.specs.declared.Third.{Third}
 use Rattle.surface.specs.Descriptions.{isContaminant}
@@ -37,7 +37,7 @@ below : (c : ℕ) → isCoverage c ≡ true → c ≤ 254
 unfolding isCoverage
 below c h = go (eqb 25 c) (eqb 50 c) (eqb 75 c) (eqb 100 c) refl refl refl refl h
   where
-    go : (p q r s : Bool) → eqb 25 c ≡ p → eqb 50 c ≡ q → eqb 75 c ≡ r → eqb 100 c ≡ s → pick p true (pick q true (pick r true (pick s true false))) ≡ true → c ≤ 254
+    go : (p q r s : Bool) → eqb 25 c ≡ p → eqb 50 c ≡ q → eqb 75 c ≡ r → eqb 100 c ≡ s → cond p true (cond q true (cond r true (cond s true false))) ≡ true → c ≤ 254
     go true q r s e f g k h′ = let z = eqb-true 25 c e in omega arith
     go false true r s e f g k h′ = let z = eqb-true 50 c f in omega arith
     go false false true s e f g k h′ = let z = eqb-true 75 c g in omega arith
@@ -48,7 +48,7 @@ covers : (t : Third) → validCoverage t ≡ true → t .coverage ≤ 254
 unfolding validCoverage
 covers t h = go (eqb (t .coverage) 0) refl h
   where
-    go : (z : Bool) → eqb (t .coverage) 0 ≡ z → pick z true (isCoverage (t .coverage) and isContaminant (t .description)) ≡ true → t .coverage ≤ 254
+    go : (z : Bool) → eqb (t .coverage) 0 ≡ z → cond z true (isCoverage (t .coverage) and isContaminant (t .description)) ≡ true → t .coverage ≤ 254
     go true e k = let z = eqb-true (t .coverage) 0 e in omega arith
     go false e k = below (t .coverage) (and-1 (isCoverage (t .coverage)) (isContaminant (t .description)) k)
 

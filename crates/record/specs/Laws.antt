@@ -32,4 +32,5 @@ notice-parts r =
     let a = canonical (addressesPieces (r .addresses)) in
     let rows = map rowPieces (rowsOf (r .rows)) in
     let below = remarkLines (itemsOf (r .items)) (languageOf (r .language)) in
-    rw ended-under (sym (joined a (filingPieces (r .filing)) (headingPieces (record { title = r .title; time = latest (rowsOf (r .rows)) })) (serialPieces (r .title .serial)) (aerodromePieces (r .title .aerodrome)) rows below))
+    rw ended-under (sym (joined a (filingPieces (r .filing)) (headingPieces (record { title = r .title; time = latest (rowsOf (r .rows)) }))
+    (serialPieces (r .title .serial)) (aerodromePieces (r .title .aerodrome)) rows below))

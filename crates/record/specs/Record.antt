@@ -26,4 +26,12 @@ makeRecord a f t rs x = record { addresses = a; filing = f; title = t; rows = ma
 
 -- "blank means all zero"
 abbrev pub blankRecord : Record
-blankRecord = record { addresses = blankAddresses; filing = blankFiling; title = blankTitle; rows = makeRows []; items = makeItems []; language = makeLanguage [] }
+blankRecord = record {
+  addresses = blankAddresses;
+  filing = blankFiling;
+  title = blankTitle;
+  rows = makeRows [];
+  items = makeItems [];
+  language =
+      makeLanguage [];
+}

@@ -2,13 +2,13 @@
 use Prim.Native.Nat.{ℕ, suc, _+_, _-_, _<_, _≤_}
 use mathlib.Core.Path.{_≡_, refl, sym, _∙_, ap}
 use mathlib.Core.List.{List, [], _∷_}
-use mathlib.Core.Bool.{Bool, true, false}
+use mathlib.Core.Bool.{cond, Bool, true, false}
 use native.Mathlib.Omega.{arith}
 use lib.Dec.{eqb, ltb}
 use lib.ListN.{length, take, drop, length-take, length-drop, length-append}
 use lib.Seq.{take-all, take-take, length-take-le}
 use borrow.Author.Tests.{ne-eqb, lt-ltb, le-ltb}
-use Rattle.text.specs.Choice.{pick, isEmpty}
+use Rattle.text.specs.Choice.{isEmpty}
 use Rattle.text.specs.Read.{Got, misfit, got, guard}
 use Rattle.text.specs.Code.Held.{firstLine}
 use Rattle.text.specs.Lines.{lines, lineSize, lineStep, closed, allButLast, lineText}
@@ -41,7 +41,7 @@ module _ (l : List ℕ) where
   text-part : take (length (lineText l)) l ≡ lineText l
   text-part = go (closed l) refl
     where
-      go : (b : Bool) → closed l ≡ b → take (length (pick b (allButLast l) l)) l ≡ pick b (allButLast l) l
+      go : (b : Bool) → closed l ≡ b → take (length (cond b (allButLast l) l)) l ≡ cond b (allButLast l) l
       go true e = ap (take (length (allButLast l))) (closed-is l e) ∙ take-front (allButLast l) (41 ∷ [])
       go false e = take-all (length l) l (omega arith)
 
@@ -51,11 +51,11 @@ module _ (l : List ℕ) where
   text-shut : ltb (length (lineText l)) (length l) ≡ closed l
   text-shut = go (closed l) refl
     where
-      go : (b : Bool) → closed l ≡ b → ltb (length (pick b (allButLast l) l)) (length l) ≡ b
+      go : (b : Bool) → closed l ≡ b → ltb (length (cond b (allButLast l) l)) (length l) ≡ b
       go true e = lt-ltb (length (allButLast l)) (length l) (omega (arith, ap length (closed-is l e), length-append (allButLast l) (41 ∷ [])))
       go false e = le-ltb (length l) (length l) (omega arith)
 
--- the same of the line at the allButLast of a message
+-- the same of the line at the front of a message
 module _ (m : List ℕ) (line : Line) (f : line ≡ firstLine m) (n : ℕ) (e : n ≡ length (lineText (take (line .size) m))) where
   line-size : length (take (line .size) m) ≡ line .size
   line-size = length-take-le (line .size) m (first-within m f .0)
@@ -69,25 +69,25 @@ module _ (m : List ℕ) (line : Line) (f : line ≡ firstLine m) (n : ℕ) (e : 
   text-shut-there : ltb n (line .size) ≡ closed (take (lineSize m) m)
   text-shut-there = rw e (ap (ltb (length (lineText (take (line .size) m)))) (sym line-size) ∙ text-shut (take (line .size) m) ∙ rw f)
 
--- the text of the first line stands at the allButLast of the message
+-- the text of the first line stands at the front of the message
 text-first : (m : List ℕ) → take (length (lineText (take (lineSize m) m))) m ≡ lineText (take (lineSize m) m)
 text-first m = text-there m (firstLine m) refl _ refl
 
 -- behind items that fit
 module _ (is : List Item) (k : List ℕ) where
-  -- the plain language t stands at the allButLast of m
+  -- the plain language t stands at the front of m
   end-says : (t m rest : List ℕ) → take (length t) m ≡ t → joined (itemsAnswer (got is k)) (ending (length t) (length rest)) m ≡ remarksAnswer (atEnd (lines rest) (remarks is t))
   unfolding joined ending lines
   end-says t m [] e = rw e
   end-says t m (x ∷ r) e = rw (ne-eqb (suc (length r)) 0 (omega arith), lines-first x r)
 
   closed-says : (c : Bool) (t m rest : List ℕ) → take (length t) m ≡ t
-      → joined (itemsAnswer (got is k)) (pick c (lastLanguage t (length rest)) (noTail 4)) m ≡ remarksAnswer (pick c (fit 9 (wholeLanguage t) (λ p. atEnd (lines rest) (remarks is p))) (refuse 4))
+      → joined (itemsAnswer (got is k)) (cond c (lastLanguage t (length rest)) (noTail 4)) m ≡ remarksAnswer (cond c (fit 9 (wholeLanguage t) (λ p. atEnd (lines rest) (remarks is p))) (refuse 4))
   unfolding joined lastLanguage wholeLanguage
   closed-says false t m rest e = refl
   closed-says true t m rest e = go (validLanguage t)
     where
-      go : (v : Bool) → joined (itemsAnswer (got is k)) (pick v (ending (length t) (length rest)) (noTail 9)) m ≡ remarksAnswer (fit 9 (guard v (got t [])) (λ p. atEnd (lines rest) (remarks is p)))
+      go : (v : Bool) → joined (itemsAnswer (got is k)) (cond v (ending (length t) (length rest)) (noTail 9)) m ≡ remarksAnswer (fit 9 (guard v (got t [])) (λ p. atEnd (lines rest) (remarks is p)))
       go true = end-says t m rest e
       go false = refl
 
@@ -103,7 +103,7 @@ abbrev below : ItemsRead → Bool → List ℕ → RemarksRead
 below r c rest = joined r (itemsStep (r .fits) (r .count) c rest) rest
 
 items-says : (g : Got (List Item)) (c : Bool) (rest : List ℕ)
-    → below (itemsAnswer g) c rest ≡ remarksAnswer (fit 8 g (λ is. pick c (pick (isEmpty is) (refuse 8) (atEnd (lines rest) (remarks is []))) (readLanguageLine is (lines rest))))
+    → below (itemsAnswer g) c rest ≡ remarksAnswer (fit 8 g (λ is. cond c (cond (isEmpty is) (refuse 8) (atEnd (lines rest) (remarks is []))) (readLanguageLine is (lines rest))))
 unfolding joined itemsStep lastItems
 items-says misfit c rest = refl
 items-says (got [] j) true rest = refl
@@ -124,25 +124,25 @@ record Kept (rest : List ℕ) (t : Tail) : Type 0 where
 none-kept : (rest : List ℕ) (n : ℕ) → Kept rest (noTail n)
 none-kept rest n = record { inside = omega arith; short = omega arith }
 
-pick-kept : {rest : List ℕ} {t u : Tail} (b : Bool) → (b ≡ true → Kept rest t) → Kept rest u → Kept rest (pick b t u)
-pick-kept true h k = h refl
-pick-kept false h k = k
+cond-kept : {rest : List ℕ} {t u : Tail} (b : Bool) → (b ≡ true → Kept rest t) → Kept rest u → Kept rest (cond b t u)
+cond-kept true h k = h refl
+cond-kept false h k = k
 
 ending-kept : (rest : List ℕ) (n left : ℕ) → n ≤ length rest → n ≤ 400 → Kept rest (ending n left)
 unfolding ending
-ending-kept rest n left h k = pick-kept (eqb left 0) (λ _. record { inside = h; short = k }) (none-kept rest 4)
+ending-kept rest n left h k = cond-kept (eqb left 0) (λ _. record { inside = h; short = k }) (none-kept rest 4)
 
 language-kept : (m : List ℕ) → Kept m (nextLanguage m)
 unfolding nextLanguage lastLanguage
 language-kept m =
     let l = lineText (take (lineSize m) m) in
     let w : length l ≤ length m = omega (arith, simp length-take at (ap length (text-first m))) in
-    pick-kept (closed (take (lineSize m) m)) (λ _. pick-kept (validLanguage l) (λ v. ending-kept m (length l) _ w (language-short l v)) (none-kept m 9)) (none-kept m 4)
+    cond-kept (closed (take (lineSize m) m)) (λ _. cond-kept (validLanguage l) (λ v. ending-kept m (length l) _ w (language-short l v)) (none-kept m 9)) (none-kept m 4)
 
 tail-kept : (fits : Bool) (count : ℕ) (c : Bool) (rest : List ℕ) → Kept rest (itemsStep fits count c rest)
 unfolding itemsStep lastItems
 tail-kept fits count c rest =
-    pick-kept fits (λ _. pick-kept c (λ _. pick-kept (eqb count 0) (λ _. none-kept rest 8) (ending-kept rest 0 (length rest) (omega arith) (omega arith))) (language-kept rest)) (none-kept rest 8)
+    cond-kept fits (λ _. cond-kept c (λ _. cond-kept (eqb count 0) (λ _. none-kept rest 8) (ending-kept rest 0 (length rest) (omega arith) (omega arith))) (language-kept rest)) (none-kept rest 8)
 
 -- the answers of the code
 module _ (m : List ℕ) (line : Line) (f : line ≡ firstLine m) (n : ℕ) (e : n ≡ length (lineText (take (line .size) m))) where

@@ -20,9 +20,20 @@ abbrev said : ℕ → Tail
 said n = record { refusal = 0; size = n }
 
 pub record Answers : Type 0 where
-  no-remarks : noRemarks 8 ≡ record { refusal = 8; items = record { count = 0; items = replicate 32 (bareItem 0) }; language = record { length = 0; bytes = replicate 400 0 } }
+  no-remarks : noRemarks 8 ≡ record {
+    refusal = 8;
+    items = record { count = 0; items = replicate 32 (bareItem 0) };
+    language =
+        record { length = 0; bytes = replicate 400 0 };
+  }
   refused : remarksAnswer (refuse 9) ≡ noRemarks 9
-  read : remarksAnswer (taken (remarks (bareItem letterJ ∷ []) (bytes "A."))) ≡ record { refusal = 0; items = record { count = 1; items = bareItem letterJ ∷ replicate 31 (bareItem 0) }; language = record { length = 2; bytes = bytes "A." ++ replicate 398 0 } }
+  read : remarksAnswer (taken (remarks (bareItem letterJ ∷ []) (bytes "A.")))
+      ≡ record {
+        refusal = 0;
+        items = record { count = 1; items = bareItem letterJ ∷ replicate 31 (bareItem 0) };
+        language =
+            record { length = 2; bytes = bytes "A." ++ replicate 398 0 };
+      }
   -- 4 where the awareness line, or that of plain language, is missing
   no-items : readRemarks (more []) ≡ refuse 4
   no-language : readLanguageLine [] [] ≡ refuse 4
@@ -39,9 +50,32 @@ pub record Answers : Type 0 where
   -- 8 where the items do not fit, whatever follows
   steps : map (λ fits. itemsStep fits 1 false (bytes "A.)")) (true ∷ false ∷ []) ≡ said 2 ∷ noTail 8 ∷ []
   last-step : map (λ rest. itemsStep true 1 true rest) ([] ∷ (65 ∷ []) ∷ []) ≡ said 0 ∷ noTail 4 ∷ []
-  together : joined (record { fits = true; count = 1; items = bareItem letterJ ∷ [] }) (said 2) (bytes "A.)") ≡ record { refusal = 0; items = record { count = 1; items = bareItem letterJ ∷ [] }; language = record { length = 2; bytes = bytes "A." ++ replicate 398 0 } }
+  together : joined (record { fits = true; count = 1; items = bareItem letterJ ∷ [] }) (said 2) (bytes "A.)")
+      ≡ record {
+        refusal = 0;
+        items = record { count = 1; items = bareItem letterJ ∷ [] };
+        language =
+            record { length = 2; bytes = bytes "A." ++ replicate 398 0 };
+      }
   apart : map (λ n. joined (record { fits = true; count = 1; items = bareItem letterJ ∷ [] }) (noTail n) []) (1 ∷ 9 ∷ []) ≡ noRemarks 1 ∷ noRemarks 9 ∷ []
 
 pub answers : Answers
 unfolding _and_ isMark endSize lineSize lineStep closed allButLast lastIs validLanguage ending lastItems lastLanguage nextLanguage itemsStep joined
-answers = record { no-remarks = refl; refused = refl; read = refl; no-items = refl; no-language = refl; no-tail = refl; ends = refl; empty = refl; last = refl; languages = refl; behind = refl; steps = refl; last-step = refl; together = refl; apart = refl }
+answers = record {
+  no-remarks = refl;
+  refused = refl;
+  read = refl;
+  no-items = refl;
+  no-language = refl;
+  no-tail = refl;
+  ends = refl;
+  empty = refl;
+  last =
+      refl;
+  languages = refl;
+  behind = refl;
+  steps = refl;
+  last-step = refl;
+  together = refl;
+  apart = refl;
+}

@@ -3,7 +3,8 @@
 ghost use mathlib.Core.Path.{_≡_};
 ghost use Prim.Native.Nat.{_≤_};
 ghost use lib.ListN.{length};
-ghost use Rattle.text.specs.Choice.{pick, _and_, isEmpty};
+ghost use Rattle.text.specs.Choice.{_and_, isEmpty};
+ghost use mathlib.Core.Bool.{cond};
 ghost use Rattle.text.specs.Piece.{canonical, verbatim};
 ghost use Rattle.text.specs.Lines.{lines, lineText, under};
 ghost use Rattle.text.specs.Put.{Put};
@@ -199,7 +200,7 @@ fn kept_language(text: &[u8]) -> Language
 // What stands behind the rows: nothing where `)` closed them, else `m` below the empty line that ended them, line by line. Where no line follows, the
 // awareness line and the one behind it are empty, and that gives 4.
 pub fn read_remarks(closed: bool, m: &[u8]) -> RemarksRead
-    ensures { λ r. ⌜ r ≡ remarksAnswer (readRemarks (pick closed finished (more (lines (now (m .entry)))))) ⌝ }
+    ensures { λ r. ⌜ r ≡ remarksAnswer (readRemarks (cond closed finished (more (lines (now (m .entry)))))) ⌝ }
 {
     if closed {
         return no_remarks(0);

@@ -2,11 +2,11 @@
 use Prim.Native.Nat.{ℕ, _≤_}
 use mathlib.Core.Path.{_≡_, refl}
 use mathlib.Core.List.{List, [], _∷_}
-use mathlib.Core.Bool.{Bool, true, false}
+use mathlib.Core.Bool.{cond, Bool, true, false}
 use native.Mathlib.Omega.{arith}
 use lib.Dec.{lit≤}
 use lib.ListN.{length, getD}
-use Rattle.text.specs.Choice.{pick, _and_, all}
+use Rattle.text.specs.Choice.{_and_, all}
 use Rattle.surface.specs.Third.{blankThird}
 use Rattle.surface.specs.Table1.{agrees}
 use Rattle.surface.specs.declared.Third.{Third}
@@ -28,6 +28,6 @@ pub at-most-one : (t : Third) (n : ℕ) → n ≡ disagrees t → n ≤ 1
 unfolding disagrees
 at-most-one t n h = rw h (go (agrees t))
   where
-    go : (b : Bool) → pick b 0 1 ≤ 1
+    go : (b : Bool) → cond b 0 1 ≤ 1
     go true = lit≤ tt
     go false = lit≤ tt

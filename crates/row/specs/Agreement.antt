@@ -1,7 +1,7 @@
 -- "Agreement check: the count of a row's thirds whose code is not one Table 1 allows."
 use Prim.Native.Nat.{ℕ, _+_}
 use mathlib.Core.List.{List, [], _∷_}
-use Rattle.text.specs.Choice.{pick}
+use mathlib.Core.Bool.{cond}
 use Rattle.surface.specs.Table1.{agrees}
 use Rattle.surface.specs.declared.Third.{Third}
 use Rattle.row.specs.Row.{validRow}
@@ -11,7 +11,7 @@ use Rattle.text.specs.Refusals.{invalidRow}
 
 -- 1 for a third whose code Table 1 does not allow
 unfoldable pub disagrees : Third → ℕ
-disagrees t = pick (agrees t) 0 1
+disagrees t = cond (agrees t) 0 1
 
 -- and their count
 unfoldable pub disagreements : List Third → ℕ
@@ -20,4 +20,4 @@ disagreements (t ∷ ts) = disagrees t + disagreements ts
 
 -- "An invalid row is refused (19, count 0)"
 unfoldable pub agreement : Row → Agreement
-agreement r = pick (validRow r) (record { refusal = 0; count = disagreements (r .thirds) }) (record { refusal = invalidRow; count = 0 })
+agreement r = cond (validRow r) (record { refusal = 0; count = disagreements (r .thirds) }) (record { refusal = invalidRow; count = 0 })

@@ -29,18 +29,35 @@ pub record Rules : Type 0 where
   numbers : map (λ n. validRow (row 1120640 n 0 (each (bare 6 dry)) 0)) (0 ∷ 1 ∷ 18 ∷ 19 ∷ []) ≡ false ∷ true ∷ true ∷ false ∷ []
   sides : map (λ s. validRow (row 1120640 7 s (each (bare 6 dry)) 0)) (0 ∷ 1 ∷ 2 ∷ 3 ∷ 4 ∷ []) ≡ true ∷ true ∷ true ∷ true ∷ false ∷ []
   widths : map (λ w. validRow (row 1120640 7 0 (each (bare 6 dry)) w)) (0 ∷ 1 ∷ 99 ∷ 100 ∷ []) ≡ true ∷ true ∷ true ∷ false ∷ []
-  thirds : map (λ t. validRow (row 1120640 7 0 (bare 6 dry ∷ bare 6 dry ∷ t ∷ []) 0)) (bare 6 dry ∷ bare 7 dry ∷ third 6 25 0 dry ∷ []) ≡ true ∷ false ∷ false ∷ []
+  thirds : map (λ t. validRow (row 1120640 7 0 (bare 6 dry ∷ bare 6 dry ∷ t ∷ []) 0)) (bare 6 dry ∷ bare 7 dry ∷ third 6 25 0 dry ∷ [])
+      ≡ true ∷ false ∷ false ∷ []
   two-thirds : validRow (row 1120640 7 0 (bare 6 dry ∷ bare 6 dry ∷ []) 0) ≡ false
   blank : isBlankRow blankRow ≡ true
-  not-blank : map isBlankRow (row 1 0 0 (each blankThird) 0 ∷ row 0 1 0 (each blankThird) 0 ∷ row 0 0 1 (each blankThird) 0 ∷ row 0 0 0 (each blankThird) 1 ∷ row 0 0 0 (each (bare 6 dry)) 0 ∷ []) ≡ false ∷ false ∷ false ∷ false ∷ false ∷ []
+  not-blank : map isBlankRow (row 1 0 0 (each blankThird) 0 ∷ row 0 1 0 (each blankThird) 0 ∷ row 0 0 1 (each blankThird) 0 ∷ row 0 0 0 (each blankThird) 1
+      ∷ row 0 0 0 (each (bare 6 dry)) 0 ∷ []) ≡ false ∷ false ∷ false ∷ false ∷ false ∷ []
   blank-invalid : validRow blankRow ≡ false
   -- "Short row: if all codes are 6 or all descriptions DRY, and all coverages and depths are NR"
   short : map isShort (each (bare 6 dry) ∷ each (bare 6 notReported) ∷ each (bare 5 dry) ∷ each (bare 5 wet) ∷ []) ≡ true ∷ true ∷ true ∷ false ∷ []
-  one-off : map isShort ((bare 6 wet ∷ bare 6 wet ∷ bare 5 wet ∷ []) ∷ (bare 5 dry ∷ bare 5 wet ∷ bare 5 dry ∷ []) ∷ (third 6 25 notReported wet ∷ bare 6 wet ∷ bare 6 wet ∷ []) ∷ (bare 6 slush ∷ bare 6 slush ∷ third 6 notReported 3 slush ∷ []) ∷ []) ≡ false ∷ false ∷ false ∷ false ∷ []
+  one-off : map isShort ((bare 6 wet ∷ bare 6 wet ∷ bare 5 wet ∷ []) ∷ (bare 5 dry ∷ bare 5 wet ∷ bare 5 dry ∷ [])
+      ∷ (third 6 25 notReported wet ∷ bare 6 wet ∷ bare 6 wet ∷ []) ∷ (bare 6 slush ∷ bare 6 slush ∷ third 6 notReported 3 slush ∷ []) ∷ [])
+      ≡ false ∷ false ∷ false ∷ false ∷ []
 
 pub rules : Rules
-unfolding _and_ isShortMonth daysOf realDay realClock realTime validRunway isContaminant isDeep isCoverage validCoverage leastDepth isReported validDepth validThird isBlankThird threeThat isBlankRow validRow isBare isSix isDry isShort
-rules = record { times = refl; numbers = refl; sides = refl; widths = refl; thirds = refl; two-thirds = refl; blank = refl; not-blank = refl; blank-invalid = refl; short = refl; one-off = refl }
+unfolding _and_ isShortMonth daysOf realDay realClock realTime validRunway isContaminant isDeep isCoverage validCoverage
+    leastDepth isReported validDepth validThird isBlankThird threeThat isBlankRow validRow isBare isSix isDry isShort
+rules = record {
+  times = refl;
+  numbers = refl;
+  sides = refl;
+  widths = refl;
+  thirds = refl;
+  two-thirds = refl;
+  blank = refl;
+  not-blank = refl;
+  blank-invalid = refl;
+  short = refl;
+  one-off = refl;
+}
 
 abbrev judged : List Third → Agreement
 judged ts = agreement (row 1120640 7 0 ts 0)
@@ -58,5 +75,6 @@ pub record Counts : Type 0 where
   invalid : judged (each (bare 7 dry)) ≡ record { refusal = 19; count = 0 }
 
 pub counts : Counts
-unfolding _and_ isShortMonth daysOf realDay realClock realTime validRunway isContaminant isDeep isCoverage validCoverage leastDepth isReported validDepth validThird threeThat validRow table1 isShallow canHold allows firstFitting agrees disagrees disagreements agreement
+unfolding _and_ isShortMonth daysOf realDay realClock realTime validRunway isContaminant isDeep isCoverage validCoverage leastDepth
+    isReported validDepth validThird threeThat validRow table1 isShallow canHold allows firstFitting agrees disagrees disagreements agreement
 counts = record { none = refl; one = refl; two = refl; three = refl; invalid = refl }

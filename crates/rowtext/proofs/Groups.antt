@@ -2,14 +2,13 @@
 use Prim.Native.Nat.{ℕ, suc, _+_, _-_, _<_, _≤_}
 use mathlib.Core.Path.{_≡_, refl, sym, _∙_, ap}
 use mathlib.Core.List.{List, [], _∷_}
-use mathlib.Core.Bool.{Bool, true, false}
+use mathlib.Core.Bool.{cond, Bool, true, false}
 use native.Mathlib.Numerals.{add-one}
 use native.Mathlib.Omega.{arith}
 use lib.Dec.{leb}
 use borrow.Author.Tests.{leb-true, leb-false}
 use lib.ListN.{length, drop, length-drop, drop-of-length-le}
 use lib.Seq.{drop-cons, drop-drop}
-use Rattle.text.specs.Choice.{pick}
 use Rattle.text.specs.Read.{Got, misfit, got, guard, andThen, readAs, readSeq, readBind, readGap, whole}
 use Rattle.text.specs.Numbers.{readDigits}
 use Rattle.runway.specs.Runway.{readRunway}
@@ -97,7 +96,7 @@ module _ (l : List ℕ) where
     unfolding readRow
     read-is = rw (sym (groups-are l) ∙ e)
 
-    go-end : (b : Bool) → k ≡ [] → rowAnswer (whole (guard b (got r k))) ≡ pick b (record { refusal = 0; row = r }) (rowAnswer misfit)
+    go-end : (b : Bool) → k ≡ [] → rowAnswer (whole (guard b (got r k))) ≡ cond b (record { refusal = 0; row = r }) (rowAnswer misfit)
     go-end true h = rw h
     go-end false h = refl
 
@@ -119,12 +118,12 @@ module _ (l : List ℕ) (at g : ℕ) (r : Row) (n : ℕ) (inv : fillFrom (groupC
   unfolding judgedRow
   way-off h m e s = rw e (sym (line-off l (sym inv ∙ from-off g r (drop at l) h m)))
 
-  pub way-end : groupCount ≤ g → n ≡ pick (leb (length l) at) 0 noRow → judgedRow n r ≡ rowAnswer (wholeRow l)
+  pub way-end : groupCount ≤ g → n ≡ cond (leb (length l) at) 0 noRow → judgedRow n r ≡ rowAnswer (wholeRow l)
   way-end h e = go (leb (length l) at) refl e
     where
       all : fillFrom groupCount 0 blankRow l ≡ got r (drop at l)
       all = sym inv ∙ from-end g r (drop at l) h
 
-      go : (b : Bool) → leb (length l) at ≡ b → n ≡ pick b 0 noRow → judgedRow n r ≡ rowAnswer (wholeRow l)
+      go : (b : Bool) → leb (length l) at ≡ b → n ≡ cond b 0 noRow → judgedRow n r ≡ rowAnswer (wholeRow l)
       go true q z = rw z (sym (line-end l r (drop at l) all (drop-of-length-le l (leb-true (length l) at q))))
       go false q z = rw z (sym (line-left l r (drop at l) all (drop-cons l at 0 (leb-false (length l) at q))))

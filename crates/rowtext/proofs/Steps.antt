@@ -2,8 +2,7 @@
 use Prim.Native.Nat.{ℕ, _<_}
 use mathlib.Core.Path.{_≡_}
 use mathlib.Core.List.{List}
-use mathlib.Core.Bool.{Bool, true, false}
-use Rattle.text.specs.Choice.{pick}
+use mathlib.Core.Bool.{cond, Bool, true, false}
 use Rattle.text.specs.Read.{Got, misfit, got, andThen, orElse}
 use Rattle.text.specs.Numbers.{readDigits}
 use Rattle.text.specs.Laws.Base.{Laws}
@@ -15,7 +14,7 @@ use Rattle.thirds.specs.Laws.Held.{three-got}
 use Rattle.thirds.specs.declared.Trio.{Trio}
 
 -- what was read, under another name
-pub as-says : {A B : Type 0} (to : A → B) (g : Got A) (b : Bool) (a : A) (k : List ℕ) → g ≡ pick b (got a k) misfit → andThen g (λ x r. got (to x) r) ≡ pick b (got (to a) k) misfit
+pub as-says : {A B : Type 0} (to : A → B) (g : Got A) (b : Bool) (a : A) (k : List ℕ) → g ≡ cond b (got a k) misfit → andThen g (λ x r. got (to x) r) ≡ cond b (got (to a) k) misfit
 as-says to g true a k e = rw e
 as-says to g false a k e = rw e
 

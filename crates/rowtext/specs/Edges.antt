@@ -23,7 +23,7 @@ use Rattle.rowtext.specs.Writing.{rowText, WroteRow}
 use Rattle.row.specs.declared.Row.{Row}
 use Rattle.rowtext.specs.declared.RowRead.{RowRead}
 
--- the rowAnswer to a line, and to one that goes on behind a time and a runway
+-- the answer to a line, and to one that goes on behind a time and a runway
 abbrev line : String → RowRead
 line s = rowAnswer (wholeRow (bytes s))
 
@@ -75,7 +75,8 @@ pub record Edges : Type 0 where
   neither : given "6/6/5 DRY/DRY/NR" ≡ refused
   with-depth : given "6/6/6 03/NR/NR SLUSH/DRY/DRY" ≡ refused
   -- no number is ever required, and WET takes a coverage (decision 15)
-  no-coverage : given "5/5/5 NR/25/100 03/NR/NR SLUSH/FROST/WET" ≡ taken (row (third 5 notReported 3 slush ∷ third 5 25 notReported frost ∷ third 5 100 notReported wet ∷ []) 0)
+  no-coverage : given "5/5/5 NR/25/100 03/NR/NR SLUSH/FROST/WET"
+      ≡ taken (row (third 5 notReported 3 slush ∷ third 5 25 notReported frost ∷ third 5 100 notReported wet ∷ []) 0)
   coverage-under-dry : given "5/5/5 25/NR/NR NR/NR/NR DRY/ICE/ICE" ≡ refused
   coverage-under-nr : given "5/5/5 25/NR/NR NR/NR/NR NR/ICE/ICE" ≡ refused
   depth-under-frost : given "5/5/5 NR/NR/NR 03/NR/NR FROST/ICE/ICE" ≡ refused
@@ -100,7 +101,8 @@ pub record Edges : Type 0 where
   code-7 : given "6/6/7 25/25/25 NR/NR/NR ICE/ICE/ICE" ≡ refused
   code-nr : given "NR/6/6 DRY/DRY/DRY" ≡ refused
   -- "Coverage: NR, 25, 50, 75, 100"
-  coverage-words : given "1/1/1 50/75/100 NR/NR/NR ICE/ICE/ICE" ≡ taken (row (third 1 50 notReported ice ∷ third 1 75 notReported ice ∷ third 1 100 notReported ice ∷ []) 0)
+  coverage-words : given "1/1/1 50/75/100 NR/NR/NR ICE/ICE/ICE"
+      ≡ taken (row (third 1 50 notReported ice ∷ third 1 75 notReported ice ∷ third 1 100 notReported ice ∷ []) 0)
   coverage-30 : given "1/1/1 30/75/100 NR/NR/NR ICE/ICE/ICE" ≡ refused
   coverage-025 : given "1/1/1 025/75/100 NR/NR/NR ICE/ICE/ICE" ≡ refused
   -- "Runway: 01 to 18, then nothing, L, C or R"
@@ -110,7 +112,9 @@ pub record Edges : Type 0 where
   empty : line "" ≡ refused
 
 pub edges : Edges
-unfolding _and_ skip readText readName readDigits isShortMonth daysOf realDay realClock realTime validRunway isContaminant isDeep isCoverage validCoverage leastDepth isReported validDepth validThird readMeasure readCoverage readDescription readThird readGroup threeThat validRow isBare isSix isDry isShort readFull readShort readWidth readRow
+unfolding _and_ skip readText readName readDigits isShortMonth daysOf realDay realClock realTime validRunway isContaminant isDeep isCoverage validCoverage
+    leastDepth isReported validDepth validThird readMeasure readCoverage readDescription readThird readGroup threeThat validRow isBare isSix isDry isShort
+    readFull readShort readWidth readRow
 edges = record {
   assessing = Surface.edges;
   leap-day = refl;
@@ -164,11 +168,13 @@ edges = record {
 
 -- the texts that are written: in full, and short exactly where the short row applies
 pub record Written : Type 0 where
-  full : rowText (row (third 3 75 12 drySnow ∷ third 5 25 notReported frost ∷ bare 5 dry ∷ []) 0) ≡ bytes "01120640 07 3/5/5 75/25/NR 12/NR/NR DRY SNOW/FROST/DRY"
+  full : rowText (row (third 3 75 12 drySnow ∷ third 5 25 notReported frost ∷ bare 5 dry ∷ []) 0)
+      ≡ bytes "01120640 07 3/5/5 75/25/NR 12/NR/NR DRY SNOW/FROST/DRY"
   short : rowText (record { time = 1120640; number = 7; side = 3; thirds = each (bare 6 dry); width = 40 }) ≡ bytes "01120640 07R 6/6/6 DRY/DRY/DRY 40"
   short-nr : rowText (row (each (bare 6 notReported)) 5) ≡ bytes "01120640 07 6/6/6 NR/NR/NR 05"
   not-short : rowText (row (bare 6 dry ∷ bare 6 dry ∷ bare 5 notReported ∷ []) 0) ≡ bytes "01120640 07 6/6/5 NR/NR/NR NR/NR/NR DRY/DRY/NR"
-  deep : rowText (row (third 2 100 100 slush ∷ third 2 100 99 slush ∷ third 2 100 4 standingWater ∷ []) 0) ≡ bytes "01120640 07 2/2/2 100/100/100 100/99/04 SLUSH/SLUSH/STANDING WATER"
+  deep : rowText (row (third 2 100 100 slush ∷ third 2 100 99 slush ∷ third 2 100 4 standingWater ∷ []) 0)
+      ≡ bytes "01120640 07 2/2/2 100/100/100 100/99/04 SLUSH/SLUSH/STANDING WATER"
   -- a row that is not valid has none, though its groups have bytes
   invalid : rowText (row (each (bare 7 dry)) 0) ≡ []
   unjudged : canonical (rowPieces (row (each (bare 7 dry)) 0)) ≡ bytes "01120640 07 7/7/7 DRY/DRY/DRY"
@@ -176,7 +182,8 @@ pub record Written : Type 0 where
   left-out : groupOf coverages (row (each (bare 6 dry)) 0) ++ groupOf depths (row (each (bare 6 dry)) 0) ≡ nrText
 
 pub written : Written
-unfolding _and_ spell digits isShortMonth daysOf realDay realClock realTime validRunway isContaminant isDeep isCoverage validCoverage leastDepth isReported validDepth validThird measurePieces thirdPieces threeThat validRow isBare isSix isDry isShort middlePieces widthPieces rowPieces rowText
+unfolding _and_ spell digits isShortMonth daysOf realDay realClock realTime validRunway isContaminant isDeep isCoverage validCoverage leastDepth isReported
+    validDepth validThird measurePieces thirdPieces threeThat validRow isBare isSix isDry isShort middlePieces widthPieces rowPieces rowText
 written = record { full = refl; short = refl; short-nr = refl; not-short = refl; deep = refl; invalid = refl; unjudged = refl; left-out = refl }
 
 -- a text in a buffer that is longer than it, as long, and a byte shorter
@@ -186,4 +193,9 @@ pub record Fitted : Type 0 where
   shorter : WroteRow (bytes "AB") (bytes "x") (bytes "x") 0
 
 pub fitted : Fitted
-fitted = record { longer = record { filled = refl; holds = refl }; exact = record { filled = refl; holds = refl }; shorter = record { filled = refl; holds = refl } }
+fitted = record {
+  longer = record { filled = refl; holds = refl };
+  exact = record { filled = refl; holds = refl };
+  shorter =
+      record { filled = refl; holds = refl };
+}

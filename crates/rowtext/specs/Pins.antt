@@ -43,5 +43,7 @@ pub record Filling : Type 0 where
   judged-invalid : judgedRow 0 (row 1120640 19 1 (each (bare 6 dry)) 40) ≡ rowAnswer misfit
 
 pub filling : Filling
-unfolding _and_ skip readText readName readDigits measurePieces readMeasure readCoverage readDescription readThird readGroup readFull readShort readWidth isShortMonth daysOf realDay realClock realTime validRunway isContaminant isDeep isCoverage validCoverage leastDepth isReported validDepth validThird threeThat validRow isBare isSix isDry isShort fillGroup fillFrom judgedRow
+unfolding _and_ skip readText readName readDigits measurePieces readMeasure readCoverage readDescription readThird readGroup readFull readShort readWidth
+    isShortMonth daysOf realDay realClock realTime validRunway isContaminant isDeep isCoverage validCoverage leastDepth isReported validDepth validThird
+    threeThat validRow isBare isSix isDry isShort fillGroup fillFrom judgedRow
 filling = record { time = refl; runway = refl; codes = refl; rest = refl; width = refl; all-groups = refl; judged-rows = refl; judged-invalid = refl }

@@ -69,7 +69,7 @@ readRow = readIf validRow (readAs makeRow readGroups)
 abbrev pub wholeRow : List ℕ → Got Row
 wholeRow line = whole (readRow line)
 
--- the rowAnswer to a line: the row, or the refusal and the blank row
+-- the answer to a line: the row, or the refusal and the blank row
 abbrev pub rowAnswer : Got Row → RowRead
 rowAnswer misfit = record { refusal = noRow; row = blankRow }
 rowAnswer (got r k) = record { refusal = 0; row = r }

@@ -3,7 +3,7 @@ use Prim.Native.Nat.{ℕ}
 use mathlib.Core.List.{List, [], _∷_}
 use lib.Dec.{eqb}
 use lib.ListN.{getD}
-use Rattle.text.specs.Choice.{pick}
+use mathlib.Core.Bool.{cond}
 use Rattle.text.specs.Piece.{Piece, nrGroups, _then_, space}
 use Rattle.text.specs.Numbers.{digits}
 use Rattle.runway.specs.Runway.{runwayPieces}
@@ -20,9 +20,9 @@ thirdOf r i = getD (r .thirds) i blankThird
 -- what a third holds for each of the groups
 abbrev pub field : ℕ → Third → ℕ
 field kind t =
-    pick (eqb kind codes) (t .code)
-    (pick (eqb kind coverages) (t .coverage)
-    (pick (eqb kind depths) (t .depth) (t .description)))
+    cond (eqb kind codes) (t .code)
+    (cond (eqb kind coverages) (t .coverage)
+    (cond (eqb kind depths) (t .depth) (t .description)))
 
 -- the numbers of a group, third by third
 abbrev pub numbersOf : ℕ → Row → Three
@@ -34,11 +34,11 @@ groupOf kind r = groupPieces kind (numbersOf kind r)
 
 -- coverages and depths: of a short row "the writer leaves both groups out", "otherwise both stand"
 unfoldable pub middlePieces : Row → List Piece
-middlePieces r = pick (isShort (r .thirds)) (nrGroups ∷ []) (groupOf coverages r then groupOf depths r)
+middlePieces r = cond (isShort (r .thirds)) (nrGroups ∷ []) (groupOf coverages r then groupOf depths r)
 
 -- "missing, or 01 to 99"
 unfoldable pub widthPieces : ℕ → List Piece
-widthPieces w = pick (eqb w 0) [] (space then digits 2 w)
+widthPieces w = cond (eqb w 0) [] (space then digits 2 w)
 
 -- "Time, runway, codes, coverage, depth, descriptions, width", parted by one space
 unfoldable pub rowPieces : Row → List Piece

@@ -79,6 +79,6 @@ row-back r h = rw h (row-complete (canonical (rowPieces r)) r (record { valid = 
 pub row-short : (r : Row) → length (rowText r) ≤ 147
 row-short = text-size
 
--- the promise of writing leaves no choice: the rowAnswer and every byte; that of putting is `put-one` of text, and the others are equations
+-- the promise of writing leaves no choice: the answer and every byte; that of putting is `put-one` of text, and the others are equations
 pub wrote-one : {t before x y : List ℕ} {r s : ℕ} → WroteRow t before x r → WroteRow t before y s → (r ≡ s) × (x ≡ y)
 wrote-one p q = (p .filled ∙ sym (q .filled), p .holds ∙ sym (q .holds))

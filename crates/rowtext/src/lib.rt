@@ -1,11 +1,10 @@
 // The text of a runway row: read as a line, and put into a buffer.
 
 ghost use mathlib.Core.Path.{_≡_};
-ghost use mathlib.Core.Bool.{false};
+ghost use mathlib.Core.Bool.{cond, false};
 ghost use Prim.Native.Nat.{_<_};
 ghost use lib.Dec.{leb};
 ghost use lib.ListN.{length};
-ghost use Rattle.text.specs.Choice.{pick};
 ghost use Rattle.text.specs.Piece.{canonical};
 ghost use Rattle.text.specs.Read.{readAs, readGap};
 ghost use Rattle.text.specs.Code.Held.{Held};
@@ -225,7 +224,7 @@ const GROUPS: u8 = 5;
 
 // 0 at the line's end, else the refusal of what is left.
 fn ending(line: &[u8], at: usize) -> u8
-    ensures { λ r. ⌜ r ≡ pick (leb (length (now (line .entry))) at) 0 noRow ⌝ }
+    ensures { λ r. ⌜ r ≡ cond (leb (length (now (line .entry))) at) 0 noRow ⌝ }
 {
     if line.len() <= at { 0 } else { refusal::NO_ROW }
 }

@@ -1,9 +1,9 @@
 -- A runway: its number in two digits, then nothing, L, C or R.
 use Prim.Native.Nat.{ℕ}
 use mathlib.Core.List.{List, [], _∷_}
-use mathlib.Core.Bool.{Bool, _||_}
+use mathlib.Core.Bool.{cond, Bool, _||_}
 use lib.Dec.{eqb, leb}
-use Rattle.text.specs.Choice.{pick, _and_}
+use Rattle.text.specs.Choice.{_and_}
 use Rattle.text.specs.Piece.{Piece, _then_, spell}
 use Rattle.text.specs.Read.{Got, readSeq, readAs, maybeByte}
 use Rattle.text.specs.Names.{nameAt}
@@ -19,7 +19,7 @@ isSide c = eqb c 76 || (eqb c 67 || eqb c 82)
 
 -- and the side that each stands for
 abbrev pub sideOf : ℕ → ℕ
-sideOf c = pick (eqb c 76) 1 (pick (eqb c 67) 2 (pick (eqb c 82) 3 0))
+sideOf c = cond (eqb c 76) 1 (cond (eqb c 67) 2 (cond (eqb c 82) 3 0))
 
 -- "01 to 18, then nothing, L, C or R"; the highest number is 36 in item I
 unfoldable pub validRunway : ℕ → ℕ → ℕ → Bool

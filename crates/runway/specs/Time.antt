@@ -1,9 +1,9 @@
 -- An observation time MMDDhhmm, as a number, and which of two is later.
 use Prim.Native.Nat.{ℕ, _/_, _%_}
 use mathlib.Core.List.{[], _∷_}
-use mathlib.Core.Bool.{Bool}
+use mathlib.Core.Bool.{cond, Bool}
 use lib.Dec.{eqb, leb, ltb}
-use Rattle.text.specs.Choice.{pick, _and_, member}
+use Rattle.text.specs.Choice.{_and_, member}
 
 -- the months of thirty days
 unfoldable pub isShortMonth : ℕ → Bool
@@ -11,7 +11,7 @@ isShortMonth month = member (4 ∷ 6 ∷ 9 ∷ 11 ∷ []) month
 
 -- the days of a month, 29 February included
 unfoldable pub daysOf : ℕ → ℕ
-daysOf month = pick (eqb month 2) 29 (pick (isShortMonth month) 30 31)
+daysOf month = cond (eqb month 2) 29 (cond (isShortMonth month) 30 31)
 
 -- "a real day of its month"
 unfoldable pub realDay : ℕ → ℕ → Bool

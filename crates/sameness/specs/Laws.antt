@@ -129,7 +129,8 @@ item-same a b h =
 
 same-numbers : (a : Item) → sameNumbers a a ≡ true
 unfolding sameNumbers
-same-numbers a = and-i (self (a .letter)) (and-i (self (a .number)) (and-i (self (a .side)) (and-i (self (a .amount)) (and-i (self (a .edge)) (self (a .count))))))
+same-numbers a = and-i (self (a .letter)) (and-i (self (a .number))
+    (and-i (self (a .side)) (and-i (self (a .amount)) (and-i (self (a .edge)) (self (a .count))))))
 
 same-item : (a : Item) → sameItem a a ≡ true
 unfolding sameItem

@@ -2,14 +2,14 @@
 use Prim.Native.Nat.{ℕ, zero, suc, _+_, _*_, _/_, _%_, _<_, _≤_}
 use mathlib.Core.Path.{_≡_, refl, sym, _∙_, ap}
 use mathlib.Core.List.{List, [], _∷_}
-use mathlib.Core.Bool.{Bool, true, false}
+use mathlib.Core.Bool.{cond, Bool, true, false}
 use native.Mathlib.Omega.{arith}
 use lib.Dec.{eqb, ltb}
 use lib.ListN.{length, take, drop, getD, length-take, length-drop}
 use lib.Seq.{drop-cons, drop-drop}
 use lib.Count.{trailingZeros, under}
 use borrow.Author.Tests.{eqb-true, eqb-false, ltb-true, lt-ltb}
-use Rattle.text.specs.Choice.{pick, _and_, all}
+use Rattle.text.specs.Choice.{_and_, all}
 use Rattle.text.specs.Names.{run, past, isSpace}
 use Rattle.text.specs.Code.Held.{Reached, lowFirst, Eight}
 use Rattle.text.specs.Laws.Base.{and-1, and-2}
@@ -74,7 +74,7 @@ counts [] d q a h = refl
 counts (b ∷ l) d q a h = go (eqb b 32) refl (λ e. counts l e q (and-2 _ _ a))
   where
     go : (t : Bool) → eqb b 32 ≡ t → ((e : ℕ) → e + spacesOf (length l) ≡ lowFirst l + raised (length l) q → trailingZeros (digitsOf (length l)) e / 8 ≡ length (run isSpace l))
-        → trailingZeros (plus 8 (digitsOf (length l))) d / 8 ≡ length (pick t (b ∷ run isSpace l) [])
+        → trailingZeros (plus 8 (digitsOf (length l))) d / 8 ≡ length (cond t (b ∷ run isSpace l) [])
     go true e next =
         let z : b ≡ 32 = eqb-true b 32 e in
         let r : d % 256 ≡ 0 = omega (arith, h, z) in
@@ -135,8 +135,8 @@ module _ (p : ℕ → Bool) where
   run-ends (suc k) [] h n = absurd (omega arith)
   run-ends (suc k) (x ∷ l) h n = go (p x) (run-ends k l (omega arith)) n
     where
-      go : (t : Bool) → (length (run p (take k l)) < k → past p l ≡ drop (length (run p (take k l))) l) → length (pick t (x ∷ run p (take k l)) []) < suc k
-          → pick t (past p l) (x ∷ l) ≡ drop (length (pick t (x ∷ run p (take k l)) [])) (x ∷ l)
+      go : (t : Bool) → (length (run p (take k l)) < k → past p l ≡ drop (length (run p (take k l))) l) → length (cond t (x ∷ run p (take k l)) []) < suc k
+          → cond t (past p l) (x ∷ l) ≡ drop (length (cond t (x ∷ run p (take k l)) [])) (x ∷ l)
       go true f n = f (omega arith)
       go false f n = refl
 

@@ -2,7 +2,7 @@
 use Prim.Native.Nat.{ℕ, zero, suc, _+_, _-_, _*_, _<_, _≤_, _^_}
 use mathlib.Core.Path.{_≡_, refl, sym, _∙_, ap}
 use mathlib.Core.List.{List, [], _∷_}
-use mathlib.Core.Bool.{Bool, true, false, not, _||_, and-false}
+use mathlib.Core.Bool.{cond, Bool, true, false, not, _||_, and-false}
 use native.Mathlib.Numerals.{add-one}
 use native.Mathlib.Omega.{arith}
 use native.Mathlib.Nat.{pow-le-pow-right}
@@ -12,7 +12,7 @@ use lib.Seq.{drop-cons}
 use borrow.Author.Tests.{eq-eqb, ne-eqb, eqb-true, eqb-false, not-true, le-leb, lt-leb}
 use Rattle.text.specs.Read.{Got, misfit, got, guard, andThen, skip, after, readText}
 use Rattle.text.specs.Names.{isLetter, isMark, isPlainByte, readCount, past, isSpace}
-use Rattle.text.specs.Choice.{pick, _and_, all}
+use Rattle.text.specs.Choice.{_and_, all}
 use Rattle.text.specs.Code.Held.{isGot}
 use Rattle.text.specs.Numbers.{isDigit, readDigit, readDigits}
 use Rattle.text.specs.Laws.Base.{carry, and-1, and-2, and-none}
@@ -67,7 +67,7 @@ unfolding skip
 skip-shorter [] = omega arith
 skip-shorter (x ∷ m) = go (eqb x 32) (skip-shorter m)
   where
-    go : (t : Bool) → length (skip m) ≤ length m → length (pick t (skip m) (x ∷ m)) ≤ suc (length m)
+    go : (t : Bool) → length (skip m) ≤ length m → length (cond t (skip m) (x ∷ m)) ≤ suc (length m)
     go true h = omega arith
     go false h = omega arith
 
@@ -77,7 +77,7 @@ text-short [] m h = absurd (omega arith)
 text-short (c ∷ t) [] h = refl
 text-short (c ∷ t) (x ∷ m) h = rw (text-short t (after c m) (go (eqb c 32) (skip-shorter m))) (none (eqb c x))
   where
-    go : (b : Bool) → length (skip m) ≤ length m → length (pick b (skip m) m) < length t
+    go : (b : Bool) → length (skip m) ≤ length m → length (cond b (skip m) m) < length t
     go true k = omega arith
     go false k = omega arith
 
@@ -165,7 +165,7 @@ count-none p m = refl
 pub skip-past : (m : List ℕ) → skip m ≡ past isSpace m
 unfolding skip past
 skip-past [] = refl
-skip-past (x ∷ m) = ap (λ (k : List ℕ). pick (eqb x 32) k (x ∷ m)) (skip-past m)
+skip-past (x ∷ m) = ap (λ (k : List ℕ). cond (eqb x 32) k (x ∷ m)) (skip-past m)
 
 -- a test that holds of n numbers from a on holds of each
 abbrev holds-from : (ℕ → Bool) → ℕ → ℕ → Bool
@@ -183,7 +183,7 @@ in-stretch p a (suc n) c h k l = go (eqb a c) refl (in-stretch p (suc a) n c (an
 -- below `+` only the space is plain; from there to `:` every byte is, and behind it every letter
 pub below-marks : (c : ℕ) → (c ≡ 32 → ⊥) → c < 43 → isPlainByte c ≡ false
 unfolding isMark _and_
-below-marks c n h = not-true (isPlainByte c) (rw (ne-eqb c 32 n) at (in-stretch (λ x. pick (eqb x 32) true (not (isPlainByte x))) 0 43 c refl (omega arith) (omega arith)))
+below-marks c n h = not-true (isPlainByte c) (rw (ne-eqb c 32 n) at (in-stretch (λ x. cond (eqb x 32) true (not (isPlainByte x))) 0 43 c refl (omega arith) (omega arith)))
 
 pub behind-marks : (c : ℕ) → 58 < c → isPlainByte c ≡ isLetter c
 unfolding isMark
@@ -201,12 +201,12 @@ unfolding isMark _and_
 marks-and-digits c h k = in-stretch isPlainByte 43 16 c refl h (omega arith)
 
 -- one byte more that is looked at: x says whether it is odd
-module _ (p : ℕ → Bool) (s : List ℕ) (j most x : ℕ) (h : j < length s) (e : x ≡ pick (p (getD s j 0)) 0 1) where
+module _ (p : ℕ → Bool) (s : List ℕ) (j most x : ℕ) (h : j < length s) (e : x ≡ cond (p (getD s j 0)) 0 1) where
   seen : (eqb most 0 and all p (drop j s)) ≡ (eqb most 0 and (eqb x 0 and all p (drop (j + 1) s)))
   unfolding _and_
   seen = rw (e, add-one, drop-cons s j 0 h) (go (p (getD s j 0)))
     where
-      go : (t : Bool) → (eqb most 0 and (t and all p (drop (suc j) s))) ≡ (eqb most 0 and (eqb (pick t 0 1) 0 and all p (drop (suc j) s)))
+      go : (t : Bool) → (eqb most 0 and (t and all p (drop (suc j) s))) ≡ (eqb most 0 and (eqb (cond t 0 1) 0 and all p (drop (suc j) s)))
       go true = refl
       go false = refl
 

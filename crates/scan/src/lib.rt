@@ -4,7 +4,8 @@ ghost use mathlib.Core.Path.{_≡_};
 ghost use Prim.Native.Nat.{_+_, _<_, _≤_};
 ghost use lib.Dec.{leb};
 ghost use lib.ListN.{length, take, drop};
-ghost use Rattle.text.specs.Choice.{pick, all, sameBytes};
+ghost use Rattle.text.specs.Choice.{all, sameBytes};
+ghost use mathlib.Core.Bool.{cond};
 ghost use Rattle.text.specs.Arrays.{isZero};
 ghost use Rattle.text.specs.Read.{guard, skip, readWord};
 ghost use Rattle.text.specs.Numbers.{readDigits};
@@ -281,7 +282,7 @@ pub fn counted(s: &[u8], i: usize, class: u8, n: usize) -> bool
 
 // 0 for a byte of plain language, 1 for any other.
 fn oddness(c: u8) -> u8
-    ensures { λ r. ⌜ r ≡ pick (isPlainByte c) 0 1 ⌝ }
+    ensures { λ r. ⌜ r ≡ cond (isPlainByte c) 0 1 ⌝ }
 {
     if is_plain(c) { 0 } else { 1 }
 }

@@ -1,10 +1,10 @@
 -- "Assessing a third": from an observation to the third that is reported.
 use Prim.Native.Nat.{ℕ}
-use mathlib.Core.Bool.{Bool, true, false, not}
+use mathlib.Core.Bool.{cond, Bool, true, false, not}
 use lib.Dec.{eqb, leb, ltb}
 use lib.IntN.{ℤ, pos}
 use lib.Signed.{leZ}
-use Rattle.text.specs.Choice.{firstFailing, _else_, pick, _and_}
+use Rattle.text.specs.Choice.{firstFailing, _else_, _and_}
 use Rattle.surface.specs.declared.Third.{Third}
 use Rattle.surface.specs.declared.Observation.{Observation}
 use Rattle.surface.specs.declared.Assessment.{Assessment}
@@ -36,19 +36,19 @@ deepWet o = eqb (o .kind) wet and not (isShallow (o .depth))
 
 -- "depth above 0 for a kind other than WET and the four deep ones"
 unfoldable pub deepOther : Observation → Bool
-deepOther o = pick (eqb (o .kind) wet) false (pick (isDeep (o .kind)) false (ltb 0 (o .depth)))
+deepOther o = cond (eqb (o .kind) wet) false (cond (isDeep (o .kind)) false (ltb 0 (o .depth)))
 
 -- "slippery for a kind other than WET"
 unfoldable pub slipperyOther : Observation → Bool
-slipperyOther o = pick (eqb (o .kind) wet) false (o .slippery)
+slipperyOther o = cond (eqb (o .kind) wet) false (o .slippery)
 
 -- what 16 refuses
 unfoldable pub contradictory : Observation → Bool
-contradictory o = pick (coveredDry o) true (pick (deepWet o) true (pick (deepOther o) true (slipperyOther o)))
+contradictory o = cond (coveredDry o) true (cond (deepWet o) true (cond (deepOther o) true (slipperyOther o)))
 
 -- "Cover 10-25 gives 25, 26-50 gives 50, 51-75 gives 75, 76-100 gives 100"
 unfoldable pub coverageFor : ℕ → ℕ
-coverageFor cover = pick (leb cover 25) 25 (pick (leb cover 50) 50 (pick (leb cover 75) 75 100))
+coverageFor cover = cond (leb cover 25) 25 (cond (leb cover 50) 50 (cond (leb cover 75) 75 100))
 
 -- the least cover that is reported
 abbrev pub leastCover : ℕ
@@ -56,7 +56,7 @@ leastCover = 10
 
 -- "Below 10: code 6, NR, NR, and DRY if the kind is DRY, else NR"
 unfoldable pub uncovered : ℕ → Third
-uncovered kind = third 6 notReported notReported (pick (eqb kind dry) dry notReported)
+uncovered kind = third 6 notReported notReported (cond (eqb kind dry) dry notReported)
 
 -- STANDING WATER "to 3 mm"
 unfoldable pub isThinWater : Observation → Bool
@@ -64,11 +64,11 @@ isThinWater o = eqb (o .kind) standingWater and isShallow (o .depth)
 
 -- "it is reported as WET"
 unfoldable pub reportedKind : Observation → ℕ
-reportedKind o = pick (isThinWater o) wet (o .kind)
+reportedKind o = cond (isThinWater o) wet (o .kind)
 
 -- "A depth below the kind's least reported value becomes NR, and so does every depth of a kind outside the four"
 unfoldable pub reportedDepth : ℕ → ℕ → ℕ
-reportedDepth kind depth = pick (isReported kind depth) depth notReported
+reportedDepth kind depth = cond (isReported kind depth) depth notReported
 
 -- "From 10, by Table 1", for the kind that is reported
 unfoldable pub covered : ℕ → Observation → Third
@@ -76,20 +76,20 @@ covered kind o = third (codeFor kind o) (coverageFor (o .cover)) (reportedDepth 
 
 -- the third of an observation that is in range and does not contradict itself
 unfoldable pub assessed : Observation → Third
-assessed o = pick (ltb (o .cover) leastCover) (uncovered (o .kind)) (covered (reportedKind o) o)
+assessed o = cond (ltb (o .cover) leastCover) (uncovered (o .kind)) (covered (reportedKind o) o)
 
 -- an observation that is not refused
-abbrev pub taken : Third → Assessment
-taken t = record { refusal = 0; third = t }
+abbrev pub assessedAs : Third → Assessment
+assessedAs t = record { refusal = 0; third = t }
 
 -- "refused assessing" reports "a third of code 0 with all NR"
-abbrev pub refused : ℕ → Assessment
-refused number = record { refusal = number; third = blankThird }
+abbrev pub refusedAssessing : ℕ → Assessment
+refusedAssessing number = record { refusal = number; third = blankThird }
 
 -- "Assessing: 15, 16": out of range before contradictory, and both before all else
 unfoldable pub assessing : Observation → Assessment
 assessing o =
     firstFailing (
-    inRange o else refused outOfRange
-    ∷ not (contradictory o) else refused contradiction
-    ∷ []) (taken (assessed o))
+    inRange o else refusedAssessing outOfRange
+    ∷ not (contradictory o) else refusedAssessing contradiction
+    ∷ []) (assessedAs (assessed o))

@@ -2,23 +2,23 @@
 use Prim.Native.Nat.{ℕ, zero, suc}
 use mathlib.Core.Path.{_≡_, refl}
 use mathlib.Core.List.{List, [], _∷_, map}
-use mathlib.Core.Bool.{Bool, true, false}
+use mathlib.Core.Bool.{cond, Bool, true, false}
 use lib.Dec.{eqb}
 use lib.IntN.{ℤ, pos, negsuc}
 use Rattle.text.specs.Choice
-use Rattle.text.specs.Choice.{pick}
 use Rattle.text.specs.Piece.{bytes}
 use Rattle.surface.specs.declared.Third.{Third}
 use Rattle.surface.specs.declared.Observation.{Observation}
 use Rattle.surface.specs.declared.Assessment.{Assessment}
 use Rattle.surface.specs.Descriptions
-use Rattle.surface.specs.Descriptions.{notReported, compactedSnow, drySnow, drySnowOnCompactedSnow, drySnowOnIce, frost, ice, slush, standingWater, waterOnCompactedSnow, wet, wetIce, wetSnow, wetSnowOnCompactedSnow, wetSnowOnIce, dry, descriptionName}
+use Rattle.surface.specs.Descriptions.{notReported, compactedSnow, drySnow, drySnowOnCompactedSnow, drySnowOnIce, frost, ice, slush, standingWater}
+use Rattle.surface.specs.Descriptions.{waterOnCompactedSnow, wet, wetIce, wetSnow, wetSnowOnCompactedSnow, wetSnowOnIce, dry, descriptionName}
 use Rattle.surface.specs.Third
 use Rattle.surface.specs.Third.{third, blankThird, isBlankThird, validThird}
 use Rattle.surface.specs.Table1
 use Rattle.surface.specs.Table1.{table1, code, codeFor, minus, agrees}
 use Rattle.surface.specs.Assess
-use Rattle.surface.specs.Assess.{refused, taken, assessing}
+use Rattle.surface.specs.Assess.{refusedAssessing, assessedAs, assessing}
 
 -- the numbers below n, and those of them that pass a test
 abbrev upTo : ℕ → List ℕ → List ℕ
@@ -27,7 +27,7 @@ upTo (suc n) ns = upTo n (n ∷ ns)
 
 abbrev keep : (ℕ → Bool) → List ℕ → List ℕ
 keep test [] = []
-keep test (n ∷ ns) = pick (test n) (n ∷ keep test ns) (keep test ns)
+keep test (n ∷ ns) = cond (test n) (n ∷ keep test ns) (keep test ns)
 
 abbrev those : ℕ → (ℕ → Bool) → List ℕ
 those n test = keep test (upTo n [])
@@ -66,7 +66,8 @@ abbrev validUnder : ℕ → ℕ → ℕ → List ℕ
 validUnder code coverage depth = those 20 (λ d. validThird (third code coverage depth d))
 
 abbrev contaminants : List ℕ
-contaminants = compactedSnow ∷ drySnow ∷ drySnowOnCompactedSnow ∷ drySnowOnIce ∷ frost ∷ ice ∷ slush ∷ standingWater ∷ waterOnCompactedSnow ∷ wet ∷ wetIce ∷ wetSnow ∷ wetSnowOnCompactedSnow ∷ wetSnowOnIce ∷ []
+contaminants = compactedSnow ∷ drySnow ∷ drySnowOnCompactedSnow ∷ drySnowOnIce ∷ frost ∷ ice ∷ slush ∷ standingWater ∷ waterOnCompactedSnow ∷ wet ∷ wetIce
+    ∷ wetSnow ∷ wetSnowOnCompactedSnow ∷ wetSnowOnIce ∷ []
 
 pub record Validity : Type 0 where
   code-0 : validUnder 0 notReported notReported ≡ upTo 16 []
@@ -84,7 +85,8 @@ pub record Validity : Type 0 where
   not-blank : map isBlankThird (third 1 0 0 0 ∷ third 0 1 0 0 ∷ third 0 0 1 0 ∷ third 0 0 0 1 ∷ []) ≡ false ∷ false ∷ false ∷ false ∷ []
 
 pub validity : Validity
-unfolding Choice._and_ Descriptions.isContaminant Descriptions.isDeep Third.isBlankThird Third.isCoverage Third.validCoverage Third.leastDepth Third.isReported Third.validDepth Third.validThird
+unfolding Choice._and_ Descriptions.isContaminant Descriptions.isDeep Third.isBlankThird Third.isCoverage Third.validCoverage Third.leastDepth
+    Third.isReported Third.validDepth Third.validThird
 validity =
     record {
       code-0 = refl;
@@ -160,25 +162,28 @@ reports kind = (kind, (report kind 100 0 (pos 0) false, report kind 100 4 (pos 0
 
 kinds :
     map reports (upTo 17 [])
-    ≡ (0, (refused 15, refused 15))
-    ∷ (compactedSnow, (taken (third 3 100 0 compactedSnow), refused 16))
-    ∷ (drySnow, (taken (third 5 100 0 drySnow), taken (third 3 100 4 drySnow)))
-    ∷ (drySnowOnCompactedSnow, (taken (third 3 100 0 drySnowOnCompactedSnow), refused 16))
-    ∷ (drySnowOnIce, (taken (third 0 100 0 drySnowOnIce), refused 16))
-    ∷ (frost, (taken (third 5 100 0 frost), refused 16))
-    ∷ (ice, (taken (third 1 100 0 ice), refused 16))
-    ∷ (slush, (taken (third 5 100 0 slush), taken (third 2 100 4 slush)))
-    ∷ (standingWater, (taken (third 5 100 0 wet), taken (third 2 100 4 standingWater)))
-    ∷ (waterOnCompactedSnow, (taken (third 0 100 0 waterOnCompactedSnow), refused 16))
-    ∷ (wet, (taken (third 5 100 0 wet), refused 16))
-    ∷ (wetIce, (taken (third 0 100 0 wetIce), refused 16))
-    ∷ (wetSnow, (taken (third 5 100 0 wetSnow), taken (third 3 100 4 wetSnow)))
-    ∷ (wetSnowOnCompactedSnow, (taken (third 3 100 0 wetSnowOnCompactedSnow), refused 16))
-    ∷ (wetSnowOnIce, (taken (third 0 100 0 wetSnowOnIce), refused 16))
-    ∷ (dry, (refused 16, refused 16))
-    ∷ (16, (refused 15, refused 15))
+    ≡ (0, (refusedAssessing 15, refusedAssessing 15))
+    ∷ (compactedSnow, (assessedAs (third 3 100 0 compactedSnow), refusedAssessing 16))
+    ∷ (drySnow, (assessedAs (third 5 100 0 drySnow), assessedAs (third 3 100 4 drySnow)))
+    ∷ (drySnowOnCompactedSnow, (assessedAs (third 3 100 0 drySnowOnCompactedSnow), refusedAssessing 16))
+    ∷ (drySnowOnIce, (assessedAs (third 0 100 0 drySnowOnIce), refusedAssessing 16))
+    ∷ (frost, (assessedAs (third 5 100 0 frost), refusedAssessing 16))
+    ∷ (ice, (assessedAs (third 1 100 0 ice), refusedAssessing 16))
+    ∷ (slush, (assessedAs (third 5 100 0 slush), assessedAs (third 2 100 4 slush)))
+    ∷ (standingWater, (assessedAs (third 5 100 0 wet), assessedAs (third 2 100 4 standingWater)))
+    ∷ (waterOnCompactedSnow, (assessedAs (third 0 100 0 waterOnCompactedSnow), refusedAssessing 16))
+    ∷ (wet, (assessedAs (third 5 100 0 wet), refusedAssessing 16))
+    ∷ (wetIce, (assessedAs (third 0 100 0 wetIce), refusedAssessing 16))
+    ∷ (wetSnow, (assessedAs (third 5 100 0 wetSnow), assessedAs (third 3 100 4 wetSnow)))
+    ∷ (wetSnowOnCompactedSnow, (assessedAs (third 3 100 0 wetSnowOnCompactedSnow), refusedAssessing 16))
+    ∷ (wetSnowOnIce, (assessedAs (third 0 100 0 wetSnowOnIce), refusedAssessing 16))
+    ∷ (dry, (refusedAssessing 16, refusedAssessing 16))
+    ∷ (16, (refusedAssessing 15, refusedAssessing 15))
     ∷ []
-unfolding Choice._and_ Descriptions.isDeep Third.leastDepth Third.isReported Table1.table1 Table1.isShallow Table1.isCold Table1.holds Table1.isFor Table1.firstFitting Assess.isKind Assess.isTemperature Assess.inRange Assess.coveredDry Assess.deepWet Assess.deepOther Assess.slipperyOther Assess.contradictory Assess.coverageFor Assess.uncovered Assess.isThinWater Assess.reportedKind Assess.reportedDepth Assess.covered Assess.assessed Assess.assessing
+unfolding Choice._and_ Descriptions.isDeep Third.leastDepth Third.isReported Table1.table1 Table1.isShallow Table1.isCold Table1.holds Table1.isFor
+    Table1.firstFitting Assess.isKind Assess.isTemperature Assess.inRange Assess.coveredDry Assess.deepWet Assess.deepOther Assess.slipperyOther
+    Assess.contradictory Assess.coverageFor Assess.uncovered Assess.isThinWater Assess.reportedKind Assess.reportedDepth Assess.covered Assess.assessed
+    Assess.assessing
 kinds = refl
 
 pub record Assessing : Type 0 where
@@ -188,24 +193,28 @@ pub record Assessing : Type 0 where
   temperatures : map (λ t. refusalOf ice 100 0 t false) (minus 601 ∷ minus 600 ∷ pos 600 ∷ pos 601 ∷ []) ≡ 15 ∷ 0 ∷ 0 ∷ 15 ∷ []
   -- the contradictions, each with its neighbour
   covered-dry : map (λ c. refusalOf dry c 0 (pos 0) false) (0 ∷ 1 ∷ []) ≡ 0 ∷ 16 ∷ []
-  deep-wet : map (λ d. report wet 100 d (pos 0) false) (3 ∷ 4 ∷ []) ≡ taken (third 5 100 0 wet) ∷ refused 16 ∷ []
+  deep-wet : map (λ d. report wet 100 d (pos 0) false) (3 ∷ 4 ∷ []) ≡ assessedAs (third 5 100 0 wet) ∷ refusedAssessing 16 ∷ []
   with-depth : keep (λ k. eqb (refusalOf k 100 1 (pos 0) false) 0) (upTo 17 []) ≡ drySnow ∷ slush ∷ standingWater ∷ wet ∷ wetSnow ∷ []
   slippery : keep (λ k. eqb (refusalOf k 0 0 (pos 0) true) 0) (upTo 17 []) ≡ wet ∷ []
-  slippery-wet : report wet 100 0 (pos 0) true ≡ taken (third 3 100 0 wet)
+  slippery-wet : report wet 100 0 (pos 0) true ≡ assessedAs (third 3 100 0 wet)
   -- 15 before 16, and both before cover below 10
   dry-over : refusalOf dry 101 0 (pos 0) false ≡ 15
   ice-deep-hot : refusalOf ice 0 1 (pos 601) true ≡ 15
   ice-deep : refusalOf ice 9 1 (pos 0) false ≡ 16
   -- Cover
-  coverages : map (λ c. report frost c 0 (pos 0) false .third .coverage) (10 ∷ 25 ∷ 26 ∷ 50 ∷ 51 ∷ 75 ∷ 76 ∷ 100 ∷ []) ≡ 25 ∷ 25 ∷ 50 ∷ 50 ∷ 75 ∷ 75 ∷ 100 ∷ 100 ∷ []
-  uncovered-dry : report dry 0 0 (pos 0) false ≡ taken (third 6 0 0 dry)
-  uncovered-slush : report slush 9 50 (pos 0) false ≡ taken (third 6 0 0 notReported)
+  coverages : map (λ c. report frost c 0 (pos 0) false .third .coverage) (10 ∷ 25 ∷ 26 ∷ 50 ∷ 51 ∷ 75 ∷ 76 ∷ 100 ∷ [])
+      ≡ 25 ∷ 25 ∷ 50 ∷ 50 ∷ 75 ∷ 75 ∷ 100 ∷ 100 ∷ []
+  uncovered-dry : report dry 0 0 (pos 0) false ≡ assessedAs (third 6 0 0 dry)
+  uncovered-slush : report slush 9 50 (pos 0) false ≡ assessedAs (third 6 0 0 notReported)
   -- the least depths
   dry-snow : map (λ d. report drySnow 100 d (pos 0) false .third) (2 ∷ 3 ∷ []) ≡ third 5 100 0 drySnow ∷ third 5 100 3 drySnow ∷ []
   wet-snow : map (λ d. report wetSnow 100 d (pos 0) false .third) (2 ∷ 3 ∷ []) ≡ third 5 100 0 wetSnow ∷ third 5 100 3 wetSnow ∷ []
 
 pub assessments : Assessing
-unfolding Choice._and_ Descriptions.isDeep Third.leastDepth Third.isReported Table1.table1 Table1.isShallow Table1.isCold Table1.holds Table1.isFor Table1.firstFitting Assess.isKind Assess.isTemperature Assess.inRange Assess.coveredDry Assess.deepWet Assess.deepOther Assess.slipperyOther Assess.contradictory Assess.coverageFor Assess.uncovered Assess.isThinWater Assess.reportedKind Assess.reportedDepth Assess.covered Assess.assessed Assess.assessing
+unfolding Choice._and_ Descriptions.isDeep Third.leastDepth Third.isReported Table1.table1 Table1.isShallow Table1.isCold Table1.holds Table1.isFor
+    Table1.firstFitting Assess.isKind Assess.isTemperature Assess.inRange Assess.coveredDry Assess.deepWet Assess.deepOther Assess.slipperyOther
+    Assess.contradictory Assess.coverageFor Assess.uncovered Assess.isThinWater Assess.reportedKind Assess.reportedDepth Assess.covered Assess.assessed
+    Assess.assessing
 assessments =
     record {
       covers = refl;

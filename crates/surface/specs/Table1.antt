@@ -1,23 +1,24 @@
 -- Table 1 of document 000, and the two uses of it: the code of an observation, and the codes that a third may have.
 use Prim.Native.Nat.{ℕ, zero, suc}
 use mathlib.Core.List.{List, [], _∷_}
-use mathlib.Core.Bool.{Bool, true, false, not}
+use mathlib.Core.Bool.{cond, Bool, true, false, not}
 use lib.Dec.{eqb, leb}
 use lib.IntN.{ℤ, pos, negsuc}
 use lib.Signed.{leZ}
-use Rattle.text.specs.Choice.{pick, _and_}
+use Rattle.text.specs.Choice.{_and_}
 use Rattle.surface.specs.declared.Third.{Third}
 use Rattle.surface.specs.declared.Observation.{Observation}
 use Rattle.surface.specs.declared.Entry.{Entry}
 use Rattle.surface.specs.declared.Condition.{Condition}
 use Rattle.surface.specs.declared.Condition.the-variants.{Always, NotSlippery, Slippery, Shallow, Deeper, Cold, Milder}
-use Rattle.surface.specs.Descriptions.{notReported, compactedSnow, drySnow, drySnowOnCompactedSnow, drySnowOnIce, frost, ice, slush, standingWater, waterOnCompactedSnow, wet, wetIce, wetSnow, wetSnowOnCompactedSnow, wetSnowOnIce, dry}
+use Rattle.surface.specs.Descriptions.{notReported, compactedSnow, drySnow, drySnowOnCompactedSnow, drySnowOnIce, frost, ice, slush, standingWater}
+use Rattle.surface.specs.Descriptions.{waterOnCompactedSnow, wet, wetIce, wetSnow, wetSnowOnCompactedSnow, wetSnowOnIce, dry}
 
--- a entry: the code, the kind of surface, and the condition under which the kind has the code
+-- an entry: the code, the kind of surface, and the condition under which the kind has the code
 abbrev pub entry : ℕ → ℕ → Condition → Entry
 entry c k q = record { 0 = c; 1 = k; 2 = q }
 
--- the code of a entry
+-- the code of an entry
 abbrev pub code : Entry → ℕ
 code l = l .0
 
@@ -84,7 +85,7 @@ isFor l k o = eqb (kind l) k and holds (condition l) o
 -- what the first entry that passes a test gives, or else the last value
 unfoldable pub firstFitting : {A : Type 0} → (Entry → Bool) → (Entry → A) → A → List Entry → A
 firstFitting test gives else [] = else
-firstFitting test gives else (l ∷ ls) = pick (test l) (gives l) (firstFitting test gives else ls)
+firstFitting test gives else (l ∷ ls) = cond (test l) (gives l) (firstFitting test gives else ls)
 
 -- the code that Table 1 gives
 abbrev pub codeFor : ℕ → Observation → ℕ
@@ -110,4 +111,4 @@ isAllowed t = firstFitting (λ l. allows l t) (λ _. true) false table1
 
 -- the agreement check of a third: "NR allows every code", else Table 1 has to allow it
 unfoldable pub agrees : Third → Bool
-agrees t = pick (eqb (t .description) notReported) true (isAllowed t)
+agrees t = cond (eqb (t .description) notReported) true (isAllowed t)

@@ -1,9 +1,9 @@
 -- A third of a runway, and what it may hold.
 use Prim.Native.Nat.{ℕ}
 use mathlib.Core.List.{[], _∷_}
-use mathlib.Core.Bool.{Bool, true}
+use mathlib.Core.Bool.{cond, Bool, true}
 use lib.Dec.{eqb, leb}
-use Rattle.text.specs.Choice.{pick, _and_, member}
+use Rattle.text.specs.Choice.{_and_, member}
 use Rattle.surface.specs.declared.Third.{Third}
 use Rattle.surface.specs.Descriptions.{notReported, standingWater, isDescription, isContaminant, isDeep}
 
@@ -29,11 +29,11 @@ isCoverage c = member (25 ∷ 50 ∷ 75 ∷ 100 ∷ []) c
 
 -- "A number only under a contaminant"
 unfoldable pub validCoverage : Third → Bool
-validCoverage t = pick (eqb (t .coverage) notReported) true (isCoverage (t .coverage) and isContaminant (t .description))
+validCoverage t = cond (eqb (t .coverage) notReported) true (isCoverage (t .coverage) and isContaminant (t .description))
 
 -- "STANDING WATER (from 04), SLUSH, WET SNOW and DRY SNOW (each from 03)"
 unfoldable pub leastDepth : ℕ → ℕ
-leastDepth d = pick (eqb d standingWater) 4 3
+leastDepth d = cond (eqb d standingWater) 4 3
 
 -- a depth that is reported of a surface: "only under" the four deep ones, and from the least value on
 unfoldable pub isReported : ℕ → ℕ → Bool
@@ -45,7 +45,7 @@ greatestDepth = 999
 
 -- "NR or 03 to 999", a number only where it is reported
 unfoldable pub validDepth : Third → Bool
-validDepth t = pick (eqb (t .depth) notReported) true (isReported (t .description) (t .depth) and leb (t .depth) greatestDepth)
+validDepth t = cond (eqb (t .depth) notReported) true (isReported (t .description) (t .depth) and leb (t .depth) greatestDepth)
 
 -- what a row's third may hold
 unfoldable pub validThird : Third → Bool

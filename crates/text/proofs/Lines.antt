@@ -2,7 +2,7 @@
 use Prim.Native.Nat.{ℕ, zero, suc, _+_, _-_, _<_, _≤_}
 use mathlib.Core.Path.{_≡_, refl, sym, _∙_}
 use mathlib.Core.List.{List, [], _∷_}
-use mathlib.Core.Bool.{Bool, true, false, not, and-false}
+use mathlib.Core.Bool.{cond, Bool, true, false, not, and-false}
 use mathlib.Core.Logic.{⊎-elim}
 use native.Mathlib.Omega.{arith}
 use native.Mathlib.Nat.{eq-zero-or-pos}
@@ -12,7 +12,7 @@ use lib.Seq.{drop-cons, drop-length}
 use borrow.Author.Tests.{ne-eqb, not-true}
 use Rattle.text.specs.Names.{past}
 use Rattle.text.specs.Lines.{feeds, isReturn, endSize, lineSize, lineStep, closed}
-use Rattle.text.specs.Choice.{pick, all}
+use Rattle.text.specs.Choice.{all}
 use Rattle.text.specs.declared.Line.{Line}
 use Rattle.text.specs.Code.Held.{Reached, firstLine, isUnfed}
 use Rattle.text.specs.Laws.Sizes.{size}
@@ -29,7 +29,7 @@ unfolding endSize
 end-feed [] f = true-false (sym f)
 end-feed (x ∷ m) f = rw f
 
-end-unfed : (x : ℕ) (m : List ℕ) → isUnfed x ≡ true → endSize (x ∷ m) ≡ pick (isReturn x m) 2 0
+end-unfed : (x : ℕ) (m : List ℕ) → isUnfed x ≡ true → endSize (x ∷ m) ≡ cond (isReturn x m) 2 0
 unfolding endSize
 end-unfed x m u = rw (not-true (eqb x 10) u)
 
@@ -54,7 +54,7 @@ passes-behind {n} {m} p h e =
     record { size = rw (p .size, d, f) (omega arith); step = rw (p .step, d, f) (omega arith) }
 
 -- of bytes that are no LF only the last may be where a line ends: at a CR with an LF after it
-unfed-passes : (n : ℕ) (m : List ℕ) → n < length m → all isUnfed (take (suc n) m) ≡ true → Passes n m × (endSize (drop n m) ≡ pick (isReturn (getD m n 0) (drop (suc n) m)) 2 0)
+unfed-passes : (n : ℕ) (m : List ℕ) → n < length m → all isUnfed (take (suc n) m) ≡ true → Passes n m × (endSize (drop n m) ≡ cond (isReturn (getD m n 0) (drop (suc n) m)) 2 0)
 unfed-passes n [] h a = absurd (omega arith)
 unfed-passes zero (x ∷ m) h a = (passes-none (x ∷ m), end-unfed x m (and-1 _ _ a))
 unfed-passes (suc n) (x ∷ []) h a = absurd (omega arith)
@@ -69,7 +69,7 @@ unfolding past
 past-feeds [] h = absurd (omega arith)
 past-feeds (x ∷ m) h = go (eqb x 10) refl (past-feeds m) h
   where
-    go : (t : Bool) → eqb x 10 ≡ t → (0 < length (past isUnfed m) → feeds (past isUnfed m) ≡ true) → 0 < length (pick (not t) (past isUnfed m) (x ∷ m)) → feeds (pick (not t) (past isUnfed m) (x ∷ m)) ≡ true
+    go : (t : Bool) → eqb x 10 ≡ t → (0 < length (past isUnfed m) → feeds (past isUnfed m) ≡ true) → 0 < length (cond (not t) (past isUnfed m) (x ∷ m)) → feeds (cond (not t) (past isUnfed m) (x ∷ m)) ≡ true
     go true e f h = e
     go false e f h = f h
 
@@ -96,7 +96,7 @@ module _ (m : List ℕ) (r : ℕ) (h : Reached m (past isUnfed m) r) where
   then-feeds l = rw (h .left) (past-feeds m (omega (arith, reached-length h)))
 
   -- no line ends before the last of these bytes, nor there if it is not the CR of a CR LF
-  to-last : 0 < r → Passes (r - 1) m × (endSize (drop (r - 1) m) ≡ pick (isReturn (getD m (r - 1) 0) (drop r m)) 2 0)
+  to-last : 0 < r → Passes (r - 1) m × (endSize (drop (r - 1) m) ≡ cond (isReturn (getD m (r - 1) 0) (drop r m)) 2 0)
   to-last z =
       let w = h .within in
       let e : suc (r - 1) ≡ r = omega arith in

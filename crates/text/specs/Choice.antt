@@ -1,13 +1,8 @@
 -- Tests and choices that the definitions are made of.
 use Prim.Native.Nat.{ℕ}
 use mathlib.Core.List.{List, [], _∷_}
-use mathlib.Core.Bool.{Bool, true, false}
+use mathlib.Core.Bool.{Bool, true, false, cond}
 use lib.Dec.{eqb}
-
--- the first if the test holds, else the second
-abbrev pub pick : {A : Type 0} → Bool → A → A → A
-pick true a b = a
-pick false a b = b
 
 -- both tests hold
 unfoldable pub _and_ : Bool → Bool → Bool
@@ -33,7 +28,7 @@ headIs p (x ∷ m) = p x
 -- the number stands in the list
 abbrev pub member : List ℕ → ℕ → Bool
 member [] a = false
-member (b ∷ bs) a = pick (eqb b a) true (member bs a)
+member (b ∷ bs) a = cond (eqb b a) true (member bs a)
 
 -- two lists are the same one by one, by a test
 abbrev pub sameAll : {A : Type 0} → (A → A → Bool) → List A → List A → Bool
@@ -59,4 +54,4 @@ infixr 70 _else_
 -- the first test that fails decides; the last value where all hold
 abbrev pub firstFailing : {A : Type 0} → List (Test A) → A → A
 firstFailing [] a = a
-firstFailing (t ∷ ts) a = pick (t .holds) (firstFailing ts a) (t .gives)
+firstFailing (t ∷ ts) a = cond (t .holds) (firstFailing ts a) (t .gives)

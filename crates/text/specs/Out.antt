@@ -1,4 +1,4 @@
--- Reading readLine by readLine: a value, or the number of the refusal. "The first readLine that doesn't fit decides."
+-- Reading line by line: a value, or the number of the refusal. "The first line that doesn't fit decides."
 use Prim.Native.Nat.{ℕ}
 use mathlib.Core.List.{List, [], _∷_}
 use Rattle.text.specs.Read.{Got, misfit, got, whole}
@@ -19,17 +19,17 @@ abbrev pub fit : {A B : Type 0} → ℕ → Got A → (A → Out B) → Out B
 fit n misfit f = refuse n
 fit n (got a r) f = f a
 
--- the next readLine, read whole: n where it is missing or does not fit
+-- the next line, read whole: n where it is missing or does not fit
 abbrev pub readLine : {A B : Type 0} → ℕ → (List ℕ → Got A) → List (List ℕ) → (A → List (List ℕ) → Out B) → Out B
 readLine n f [] k = refuse n
 readLine n f (l ∷ ls) k = fit n (whole (f l)) (λ a. k a ls)
 
--- "bytes after the end": nothing may stand behind the readLine that `)` closes
+-- "bytes after the end": nothing may stand behind the line that `)` closes
 abbrev pub atEnd : {A : Type 0} → List (List ℕ) → A → Out A
 atEnd [] a = taken a
 atEnd (l ∷ ls) a = refuse outline
 
--- the rows end by `)`, or by an empty readLine with these lines behind it
+-- the rows end by `)`, or by an empty line with these lines behind it
 pub data After : Type 0 where
   finished : After
   more : List (List ℕ) → After

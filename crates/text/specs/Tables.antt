@@ -2,10 +2,10 @@
 use Prim.Native.Nat.{ℕ, zero, suc}
 use mathlib.Core.Path.{_≡_, refl}
 use mathlib.Core.List.{List, [], _∷_, map}
-use mathlib.Core.Bool.{Bool, true, false}
+use mathlib.Core.Bool.{cond, Bool, true, false}
 use Rattle.text.specs.Code.Held.{none, noSpan, isUnfed, startsWith, lowFirst, isByte, Eight}
 use Rattle.text.specs.Names.{isSpace, isLetter, isName, isMark, isPlainByte, inClass, readCount, run, past, readName, nameAt}
-use Rattle.text.specs.Choice.{pick, _and_, isEmpty}
+use Rattle.text.specs.Choice.{_and_, isEmpty}
 use Rattle.text.specs.Piece.{byte, gap, loose, end, last, nrGroups, bytes, spell, words, verbatim, canonical, nrText}
 use Rattle.text.specs.Read.{misfit, got, skip, readText, readGap, readLoose, readMany, whole}
 use Rattle.text.specs.Numbers.{isDigit, readDigits, digits, number, readNumber}
@@ -17,7 +17,7 @@ use Rattle.text.specs.Arrays.{pad, slots, pastSlots, flat}
 -- the bytes below n that are of a class, from the highest down
 unfoldable pub classBelow : ℕ → (ℕ → Bool) → List ℕ
 classBelow zero p = []
-classBelow (suc n) p = pick (p n) (n ∷ classBelow n p) (classBelow n p)
+classBelow (suc n) p = cond (p n) (n ∷ classBelow n p) (classBelow n p)
 
 -- the classes of bytes, each over all 256
 pub record Classes : Type 0 where
@@ -43,7 +43,7 @@ pub writes : Canonical
 unfolding spell
 writes = record { each = refl; spelled = refl; as-it-is = refl; nr = refl }
 
--- fixed texts, gaps, numbers and names at the allButLast of a message
+-- fixed texts, gaps, numbers and names at the front of a message
 pub record Readings : Type 0 where
   pub spaces : skip (bytes "   A B") ≡ bytes "A B"
   pub word : readText (bytes "DRY SNOW") (bytes "DRY   SNOW/") ≡ got tt (bytes "/")
@@ -59,10 +59,12 @@ pub record Readings : Type 0 where
   pub eight : readCount isLetter 8 (bytes "XQAAYNYX X") ≡ got (bytes "XQAAYNYX") (bytes " X")
   pub seven : readCount isLetter 8 (bytes "XQAAYNY X") ≡ misfit
   pub longest : (run isName (bytes "A1B C") ≡ bytes "A1B") × (past isName (bytes "A1B C") ≡ bytes " C")
-  pub in-order : (readName (nameAt ("DRY" ∷ "DRY SNOW" ∷ [])) (1 ∷ 0 ∷ []) (bytes "DRY SNOW") ≡ got 1 []) × (readName (nameAt ("DRY" ∷ "DRY SNOW" ∷ [])) (0 ∷ 1 ∷ []) (bytes "DRY SNOW") ≡ got 0 (bytes " SNOW"))
+  pub in-order : (readName (nameAt ("DRY" ∷ "DRY SNOW" ∷ [])) (1 ∷ 0 ∷ []) (bytes "DRY SNOW") ≡ got 1 [])
+      × (readName (nameAt ("DRY" ∷ "DRY SNOW" ∷ [])) (0 ∷ 1 ∷ []) (bytes "DRY SNOW") ≡ got 0 (bytes " SNOW"))
   pub up-to-two : readMany (readGap (readDigits 1)) 2 (bytes " 1  2 3") ≡ got (1 ∷ 2 ∷ []) (bytes " 3")
   pub all-of-it : (whole (readDigits 2 (bytes "07")) ≡ got 7 []) × (whole (readDigits 2 (bytes "07L")) ≡ misfit)
-  pub written : (canonical (digits 4 7) ≡ bytes "0007") × (canonical (number 2 9) ≡ bytes "09") × (canonical (number 2 99) ≡ bytes "99") × (canonical (number 2 100) ≡ bytes "100")
+  pub written : (canonical (digits 4 7) ≡ bytes "0007") × (canonical (number 2 9) ≡ bytes "09") × (canonical (number 2 99) ≡ bytes "99")
+      × (canonical (number 2 100) ≡ bytes "100")
 
 pub reads : Readings
 unfolding skip readText readDigits digits readCount run past readName readMany
@@ -105,7 +107,20 @@ pub record Lined : Type 0 where
 
 pub lined : Lined
 unfolding lines endSize lineSize lineStep linesSize closed allButLast ended spell
-lined = record { none = refl; mixed = refl; empties = refl; returns = refl; ends = refl; sizes = refl; steps = refl; closings = refl; texts = refl; counted = refl; behind = (refl, refl); under = refl }
+lined = record {
+  none = refl;
+  mixed = refl;
+  empties = refl;
+  returns = refl;
+  ends = refl;
+  sizes = refl;
+  steps = refl;
+  closings = refl;
+  texts = refl;
+  counted = refl;
+  behind = (refl, refl);
+  under = refl;
+}
 
 -- lists in arrays, zeros behind
 pub record Held : Type 0 where

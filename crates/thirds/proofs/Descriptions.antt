@@ -2,13 +2,13 @@
 use Prim.Native.Nat.{ℕ, zero, suc, _+_, _-_, _≤_, _<_}
 use mathlib.Core.Path.{_≡_, refl, sym, _∙_, ap}
 use mathlib.Core.List.{List, [], _∷_, _++_}
-use mathlib.Core.Bool.{Bool, true, false}
+use mathlib.Core.Bool.{cond, Bool, true, false}
 use lib.Dec.{eqb, leb}
 use lib.ListN.{length, take, drop, getD, drop-of-length-le}
 use lib.Seq.{drop-cons}
 use borrow.Author.Tests.{eqb-true, ne-eqb, leb-true}
 use native.Mathlib.Omega.{arith}
-use Rattle.text.specs.Choice.{pick, _and_, sameBytes}
+use Rattle.text.specs.Choice.{_and_, sameBytes}
 use Rattle.text.specs.Piece.{gap, byte, canonical, canonical1, bytes, spell}
 use Rattle.text.specs.Read.{Got, misfit, got, orElse, readText, readWord}
 use Rattle.text.specs.Names.{readName}
@@ -74,7 +74,7 @@ can b (c ∷ cs) = eqb c b
 -- those of the texts that can
 abbrev pub starting : ℕ → Texts → Texts
 starting b [] = []
-starting b (t ∷ ts) = pick (can b (t .0)) (t ∷ starting b ts) (starting b ts)
+starting b (t ∷ ts) = cond (can b (t .0)) (t ∷ starting b ts) (starting b ts)
 
 -- only they are tried
 first-only : (b : ℕ) (k : List ℕ) (ts : Texts) → readFirst ts (b ∷ k) ≡ readFirst (starting b ts) (b ∷ k)
@@ -86,7 +86,7 @@ first-only b k ((c ∷ cs, v) ∷ ts) = rw (first-only b k ts) (go (eqb c b) ref
     rest : Got ℕ
     rest = readFirst (starting b ts) (b ∷ k)
 
-    go : (t : Bool) → eqb c b ≡ t → orElse (readWord (c ∷ cs) v (b ∷ k)) rest ≡ readFirst (pick t ((c ∷ cs, v) ∷ starting b ts) (starting b ts)) (b ∷ k)
+    go : (t : Bool) → eqb c b ≡ t → orElse (readWord (c ∷ cs) v (b ∷ k)) rest ≡ readFirst (cond t ((c ∷ cs, v) ∷ starting b ts) (starting b ts)) (b ∷ k)
     go true e = refl
     go false e = rw e
 
@@ -139,7 +139,7 @@ unfolding spell
 spelled [] = refl
 spelled (c ∷ cs) = go (eqb c 32) refl (spelled cs)
   where
-    go : (t : Bool) → eqb c 32 ≡ t → canonical (spell cs) ≡ cs → canonical1 (pick t gap (byte c)) (canonical (spell cs)) ≡ c ∷ cs
+    go : (t : Bool) → eqb c 32 ≡ t → canonical (spell cs) ≡ cs → canonical1 (cond t gap (byte c)) (canonical (spell cs)) ≡ c ∷ cs
     go true e h = rw (eqb-true c 32 e, h)
     go false e h = rw h
 

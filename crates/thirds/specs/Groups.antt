@@ -2,12 +2,13 @@
 use Prim.Native.Nat.{ℕ}
 use mathlib.Core.List.{List, [], _∷_}
 use lib.Dec.{eqb, leb}
-use Rattle.text.specs.Choice.{pick}
+use mathlib.Core.Bool.{cond}
 use Rattle.text.specs.Piece.{Piece, bytes, spell, words, verbatim, _then_, space}
 use Rattle.text.specs.Read.{Got, readSeq, readAs, readIf, readOr, readAfter, readGap, readWord}
 use Rattle.text.specs.Names.{readName}
 use Rattle.text.specs.Numbers.{digits, readDigits, number, readNumber}
-use Rattle.surface.specs.Descriptions.{notReported, compactedSnow, drySnow, drySnowOnCompactedSnow, drySnowOnIce, frost, ice, slush, standingWater, waterOnCompactedSnow, wet, wetIce, wetSnow, wetSnowOnCompactedSnow, wetSnowOnIce, dry, descriptionName}
+use Rattle.surface.specs.Descriptions.{notReported, compactedSnow, drySnow, drySnowOnCompactedSnow, drySnowOnIce, frost, ice, slush, standingWater}
+use Rattle.surface.specs.Descriptions.{waterOnCompactedSnow, wet, wetIce, wetSnow, wetSnowOnCompactedSnow, wetSnowOnIce, dry, descriptionName}
 
 -- the groups by number, in the order in which they stand
 abbrev pub codes : ℕ
@@ -24,7 +25,7 @@ descriptions = 3
 
 -- "NR", or a number in "two digits below 100, three from there"
 unfoldable pub measurePieces : ℕ → List Piece
-measurePieces x = pick (eqb x notReported) (words "NR") (number 2 x)
+measurePieces x = cond (eqb x notReported) (words "NR") (number 2 x)
 
 -- the same read
 unfoldable pub readMeasure : List ℕ → Got ℕ
@@ -54,20 +55,20 @@ readDescription = readName descriptionName descriptionOrder
 -- the text of one third in each of the groups; "Code: one digit"
 unfoldable pub thirdPieces : ℕ → ℕ → List Piece
 thirdPieces kind x =
-    pick (eqb kind codes) (digits 1 x)
-    (pick (eqb kind coverages) (measurePieces x)
-    (pick (eqb kind depths) (measurePieces x) (descriptionPieces x)))
+    cond (eqb kind codes) (digits 1 x)
+    (cond (eqb kind coverages) (measurePieces x)
+    (cond (eqb kind depths) (measurePieces x) (descriptionPieces x)))
 
 -- the same read
 unfoldable pub readThird : ℕ → List ℕ → Got ℕ
 readThird kind m =
-    pick (eqb kind codes) (readDigits 1 m)
-    (pick (eqb kind coverages) (readCoverage m)
-    (pick (eqb kind depths) (readMeasure m) (readDescription m)))
+    cond (eqb kind codes) (readDigits 1 m)
+    (cond (eqb kind coverages) (readCoverage m)
+    (cond (eqb kind depths) (readMeasure m) (readDescription m)))
 
 -- the highest number that a third of a group can show
 unfoldable pub highest : ℕ → ℕ
-highest kind = pick (eqb kind codes) 9 (pick (eqb kind coverages) 100 (pick (eqb kind depths) 999 dry))
+highest kind = cond (eqb kind codes) 9 (cond (eqb kind coverages) 100 (cond (eqb kind depths) 999 dry))
 
 -- a number for each third
 abbrev pub Three : Type 0

@@ -8,10 +8,12 @@ use Rattle.text.specs.Piece.{bytes, spell, canonical}
 use Rattle.text.specs.Read.{Got, misfit, got, skip, readText}
 use Rattle.text.specs.Names.{readName}
 use Rattle.text.specs.Numbers.{digits, readDigits}
-use Rattle.surface.specs.Descriptions.{notReported, compactedSnow, drySnow, drySnowOnCompactedSnow, drySnowOnIce, frost, ice, slush, standingWater, waterOnCompactedSnow, wet, wetIce, wetSnow, wetSnowOnCompactedSnow, wetSnowOnIce, dry}
+use Rattle.surface.specs.Descriptions.{notReported, compactedSnow, drySnow, drySnowOnCompactedSnow, drySnowOnIce, frost, ice, slush, standingWater}
+use Rattle.surface.specs.Descriptions.{waterOnCompactedSnow, wet, wetIce, wetSnow, wetSnowOnCompactedSnow, wetSnowOnIce, dry}
 use Rattle.thirds.specs.Code.Parts.{dries, wets}
 use Rattle.thirds.specs.Code.Held.{noTrio, jointText}
-use Rattle.thirds.specs.Groups.{codes, coverages, depths, descriptions, descriptionOrder, measurePieces, readMeasure, readCoverage, readDescription, thirdPieces, readThird, highest, Three, groupPieces, readGroup}
+use Rattle.thirds.specs.Groups.{codes, coverages, depths, descriptions, descriptionOrder, measurePieces, readMeasure, readCoverage, readDescription}
+use Rattle.thirds.specs.Groups.{thirdPieces, readThird, highest, Three, groupPieces, readGroup}
 
 abbrev text : ℕ → ℕ → List ℕ
 text kind x = canonical (thirdPieces kind x)
@@ -31,7 +33,8 @@ pub record Texts : Type 0 where
   coverage : map (text coverages) (notReported ∷ 25 ∷ 50 ∷ 75 ∷ 100 ∷ []) ≡ bytes "NR" ∷ bytes "25" ∷ bytes "50" ∷ bytes "75" ∷ bytes "100" ∷ []
   depth : map (text depths) (notReported ∷ 3 ∷ 99 ∷ 100 ∷ 999 ∷ []) ≡ bytes "NR" ∷ bytes "03" ∷ bytes "99" ∷ bytes "100" ∷ bytes "999" ∷ []
   description :
-      map (text descriptions) (notReported ∷ compactedSnow ∷ drySnow ∷ drySnowOnCompactedSnow ∷ drySnowOnIce ∷ frost ∷ ice ∷ slush ∷ standingWater ∷ waterOnCompactedSnow ∷ wet ∷ wetIce ∷ wetSnow ∷ wetSnowOnCompactedSnow ∷ wetSnowOnIce ∷ dry ∷ 16 ∷ [])
+      map (text descriptions) (notReported ∷ compactedSnow ∷ drySnow ∷ drySnowOnCompactedSnow ∷ drySnowOnIce ∷ frost ∷ ice ∷ slush ∷ standingWater
+      ∷ waterOnCompactedSnow ∷ wet ∷ wetIce ∷ wetSnow ∷ wetSnowOnCompactedSnow ∷ wetSnowOnIce ∷ dry ∷ 16 ∷ [])
       ≡ bytes "NR"
       ∷ bytes "COMPACTED SNOW"
       ∷ bytes "DRY SNOW"
@@ -59,8 +62,10 @@ texts = record { code = refl; coverage = refl; depth = refl; description = refl;
 
 -- what begins by DRY and by WET, the longer before what they begin with; the numbers of the groups
 pub record Parts : Type 0 where
-  begin-dry : dries ≡ (bytes "DRY SNOW ON TOP OF COMPACTED SNOW", drySnowOnCompactedSnow) ∷ (bytes "DRY SNOW ON TOP OF ICE", drySnowOnIce) ∷ (bytes "DRY SNOW", drySnow) ∷ (bytes "DRY", dry) ∷ []
-  begin-wet : wets ≡ (bytes "WET SNOW ON TOP OF COMPACTED SNOW", wetSnowOnCompactedSnow) ∷ (bytes "WET SNOW ON TOP OF ICE", wetSnowOnIce) ∷ (bytes "WET SNOW", wetSnow) ∷ (bytes "WET ICE", wetIce) ∷ (bytes "WET", wet) ∷ []
+  begin-dry : dries ≡ (bytes "DRY SNOW ON TOP OF COMPACTED SNOW", drySnowOnCompactedSnow) ∷ (bytes "DRY SNOW ON TOP OF ICE", drySnowOnIce)
+      ∷ (bytes "DRY SNOW", drySnow) ∷ (bytes "DRY", dry) ∷ []
+  begin-wet : wets ≡ (bytes "WET SNOW ON TOP OF COMPACTED SNOW", wetSnowOnCompactedSnow) ∷ (bytes "WET SNOW ON TOP OF ICE", wetSnowOnIce)
+      ∷ (bytes "WET SNOW", wetSnow) ∷ (bytes "WET ICE", wetIce) ∷ (bytes "WET", wet) ∷ []
   kinds : codes ∷ coverages ∷ depths ∷ descriptions ∷ [] ≡ 0 ∷ 1 ∷ 2 ∷ 3 ∷ []
 
 pub parts : Parts
@@ -72,9 +77,12 @@ pub record Readings : Type 0 where
   spaced : third descriptions "DRY   SNOW  ON TOP OF ICE" ≡ got drySnowOnIce []
   none : map (third descriptions) ("" ∷ "SNOW" ∷ "DR" ∷ "WATER" ∷ "dry" ∷ []) ≡ misfit ∷ misfit ∷ misfit ∷ misfit ∷ misfit ∷ []
   code : map (third codes) ("0" ∷ "9" ∷ "12" ∷ "NR" ∷ "" ∷ []) ≡ got 0 [] ∷ got 9 [] ∷ got 1 (bytes "2") ∷ misfit ∷ misfit ∷ []
-  coverage : map (third coverages) ("NR" ∷ "25" ∷ "100" ∷ "101" ∷ "999" ∷ "5" ∷ "00" ∷ []) ≡ got notReported [] ∷ got 25 [] ∷ got 100 [] ∷ misfit ∷ misfit ∷ misfit ∷ misfit ∷ []
-  depth : map (third depths) ("NR" ∷ "03" ∷ "99" ∷ "100" ∷ "999" ∷ "3" ∷ "00" ∷ "099" ∷ "1000" ∷ []) ≡ got notReported [] ∷ got 3 [] ∷ got 99 [] ∷ got 100 [] ∷ got 999 [] ∷ misfit ∷ misfit ∷ got 9 (bytes "9") ∷ got 100 (bytes "0") ∷ []
-  groups : (group codes " 1/2/3" ≡ all 1 2 3) × (group coverages "  25/NR/100" ≡ all 25 notReported 100) × (group depths " 03/NR/100" ≡ all 3 notReported 100) × (group descriptions " DRY/NR/WET ICE" ≡ all dry notReported wetIce)
+  coverage : map (third coverages) ("NR" ∷ "25" ∷ "100" ∷ "101" ∷ "999" ∷ "5" ∷ "00" ∷ [])
+      ≡ got notReported [] ∷ got 25 [] ∷ got 100 [] ∷ misfit ∷ misfit ∷ misfit ∷ misfit ∷ []
+  depth : map (third depths) ("NR" ∷ "03" ∷ "99" ∷ "100" ∷ "999" ∷ "3" ∷ "00" ∷ "099" ∷ "1000" ∷ [])
+      ≡ got notReported [] ∷ got 3 [] ∷ got 99 [] ∷ got 100 [] ∷ got 999 [] ∷ misfit ∷ misfit ∷ got 9 (bytes "9") ∷ got 100 (bytes "0") ∷ []
+  groups : (group codes " 1/2/3" ≡ all 1 2 3) × (group coverages "  25/NR/100" ≡ all 25 notReported 100)
+      × (group depths " 03/NR/100" ≡ all 3 notReported 100) × (group descriptions " DRY/NR/WET ICE" ≡ all dry notReported wetIce)
   parted : map (group codes) ("1/2/3" ∷ " 1 /2/3" ∷ " 1/ 2/3" ∷ " 1/2" ∷ " 1-2-3" ∷ []) ≡ misfit ∷ misfit ∷ misfit ∷ misfit ∷ misfit ∷ []
   -- a misfit is all zero
   nothing : noTrio ≡ record { fits = false; one = 0; two = 0; three = 0; next = 0 }
@@ -82,4 +90,16 @@ pub record Readings : Type 0 where
 
 pub readings : Readings
 unfolding spell skip readText readName readDigits digits measurePieces readMeasure readCoverage readDescription thirdPieces readThird highest readGroup
-readings = record { description = refl; spaced = refl; none = refl; code = refl; coverage = refl; depth = refl; groups = (refl, refl, refl, refl); parted = refl; nothing = refl; shown = refl }
+readings = record {
+  description = refl;
+  spaced = refl;
+  none = refl;
+  code = refl;
+  coverage = refl;
+  depth = refl;
+  groups = (refl, refl, refl, refl);
+  parted =
+      refl;
+  nothing = refl;
+  shown = refl;
+}

@@ -8,7 +8,7 @@ use lib.Dec.{eqb}
 use lib.ListN.{length, take, getD}
 use lib.Seq.{take-all, take-suc}
 use borrow.Author.Tests.{ne-eqb}
-use Rattle.text.specs.Choice.{pick}
+use mathlib.Core.Bool.{cond}
 use Rattle.text.specs.Piece.{Piece, loose, canonical, layAll, bytes}
 use Rattle.text.specs.Laws.Put.{canonical-append}
 use Rattle.items.specs.declared.Item.{Item}
@@ -35,7 +35,7 @@ line-more j is i =
 
 -- the item at place k
 pub line-next : (d : Item) (items : List Item) (k : ℕ) → k < length items
-    → awarenessText (take (k + 1) items) ≡ awarenessText (take k items) ++ (pick (eqb k 0) [] (bytes " ") ++ canonical (itemPieces (getD items k d)))
+    → awarenessText (take (k + 1) items) ≡ awarenessText (take k items) ++ (cond (eqb k 0) [] (bytes " ") ++ canonical (itemPieces (getD items k d)))
 unfolding awarenessPieces
 line-next d [] k h = absurd (omega arith)
 line-next d (i ∷ is) zero h = ap canonical (append-nil (itemPieces i))

@@ -2,14 +2,13 @@
 use Prim.Native.Nat.{ℕ, zero, suc, _-_, _<_, _≤_}
 use mathlib.Core.Path.{_≡_, refl, sym, _∙_, ap}
 use mathlib.Core.List.{List, [], _∷_, _++_}
-use mathlib.Core.Bool.{Bool, true, false}
+use mathlib.Core.Bool.{cond, Bool, true, false}
 use native.Mathlib.Omega.{arith}
 use lib.Dec.{eqb}
 use lib.ListN.{length, take, drop, drop-of-length-le}
 use lib.Seq.{take-all, drop-length}
 use borrow.Author.Tests.{eqb-true}
 use Rattle.text.specs.Arrays.{slots}
-use Rattle.text.specs.Choice.{pick}
 use Rattle.text.specs.Piece.{Piece, byte, gap, canonical, canonical1, spell, verbatim, words, bytes}
 use Rattle.text.specs.Laws.Held.{part-all}
 use Rattle.text.specs.Laws.Put.{canonical-append}
@@ -27,7 +26,7 @@ unfolding spell
 spell-bytes [] = refl
 spell-bytes (c ∷ l) = go (eqb c 32) refl (spell-bytes l)
   where
-    go : (t : Bool) → eqb c 32 ≡ t → canonical (spell l) ≡ l → canonical1 (pick t gap (byte c)) (canonical (spell l)) ≡ c ∷ l
+    go : (t : Bool) → eqb c 32 ≡ t → canonical (spell l) ≡ l → canonical1 (cond t gap (byte c)) (canonical (spell l)) ≡ c ∷ l
     go true e h = λ j. sym (eqb-true c 32 e) j ∷ h j
     go false e h = ap (λ k. c ∷ k) h
 

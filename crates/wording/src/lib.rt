@@ -3,7 +3,7 @@
 ghost use mathlib.Core.List.{[]};
 ghost use lib.Dec.{eqb};
 ghost use lib.ListN.{take};
-ghost use Rattle.text.specs.Choice.{pick};
+ghost use mathlib.Core.Bool.{cond};
 ghost use Rattle.text.specs.Numbers.{number};
 ghost use Rattle.text.specs.Piece.{canonical, spell, bytes};
 ghost use Rattle.text.specs.Put.{Put};
@@ -167,7 +167,7 @@ pub fn put_item(out: &mut [u8], at: usize, item: Item) -> usize
 
 // The space before an item that stands at place `k` of the line; the first has none.
 fn put_parting(out: &mut [u8], at: usize, k: u8) -> usize
-    ensures { λ r. ⌜ Put at (pick (eqb k 0) [] (bytes " ")) (now (out .entry)) (now (out .exit)) r ⌝ }
+    ensures { λ r. ⌜ Put at (cond (eqb k 0) [] (bytes " ")) (now (out .entry)) (now (out .exit)) r ⌝ }
 {
     if k == 0 {
         return told_behind(out, at, 0);

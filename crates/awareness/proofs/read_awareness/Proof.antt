@@ -2,12 +2,11 @@
 -- the item may stand behind those so far just where it may behind the first k of them.
 use Prim.Native.Nat.{_-_, _≤_}
 use mathlib.Core.Path.{_≡_, refl, sym, _∙_, ap}
-use mathlib.Core.Bool.{true}
+use mathlib.Core.Bool.{cond, true}
 use mathlib.Core.Logic.{⊎-elim}
 use lib.ListN.{take}
 use native.Mathlib.Omega.{arith}
 use borrow.Author.Tests.{not-true, not-false}
-use Rattle.text.specs.Choice.{pick}
 use Rattle.text.specs.Read.{misfit}
 use Rattle.items.specs.Awareness.{standsBehind, mostItems, wholeAwareness}
 use Rattle.awareness.specs.Code.Held.{itemsAnswer}
@@ -115,7 +114,7 @@ items-again c =
     (λ x. back-lower (l .items) k (r .result .item) _ (x .0 .taken) (omega (arith, size (l .inv))) (q .loop .inv .0) (l .inv .order) (x .4 .taken)) (o .loop-test .came)) (c .spaces .ensures)
 
 -- the loop is left with the line's end or with the first misfit
-outcome : (c : tie.Joined1 Inv-loop μ-loop Inv-items μ-items) → (let l = c .before .items in pick (c .if1 .fits) (record { fits = true; count = l .count; items = l .items }) (itemsAnswer misfit)) ≡ itemsAnswer (wholeAwareness (c .before .before .before .before .args .line .now))
+outcome : (c : tie.Joined1 Inv-loop μ-loop Inv-items μ-items) → (let l = c .before .items in cond (c .if1 .fits) (record { fits = true; count = l .count; items = l .items }) (itemsAnswer misfit)) ≡ itemsAnswer (wholeAwareness (c .before .before .before .before .args .line .now))
 outcome c =
     let l = c .before .items in
     let s = l .inv in

@@ -23,7 +23,8 @@ count-fits p (suc n) [] = rw (eqb·zero-suc n)
 count-fits p (suc n) (x ∷ l) = rw (eqb·suc-suc (length l) n) (go (p x) (readCount p n l) refl (eqb (length l) n) (all p l) (count-fits p n l))
   where
     go : (t : Bool) (g : Got (List ℕ)) → readCount p n l ≡ g → (u v : Bool) → isGot (whole (readCount p n l)) ≡ (u and v)
-        → isGot (whole (andThen {A = ℕ × List ℕ} (andThen (guard t (got x l)) (λ a k. andThen (readCount p n k) (λ b r. got (a, b) r))) (λ q r. got (q .0 ∷ q .1) r))) ≡ (u and (t and v))
+        → isGot (whole (andThen {A = ℕ × List ℕ} (andThen (guard t (got x l)) (λ a k. andThen (readCount p n k) (λ b r. got (a, b) r)))
+        (λ q r. got (q .0 ∷ q .1) r))) ≡ (u and (t and v))
     go false g q true v e = refl
     go false g q false v e = refl
     go true misfit q u v e = rw q (rw q at e)

@@ -2,12 +2,11 @@
 use Prim.Native.Nat.{ℕ, zero, suc, _<_, _≤_}
 use mathlib.Core.Path.{_≡_, refl, sym, subst, _∙_, ap}
 use mathlib.Core.List.{List, [], _∷_, _++_, append-assoc, append-nil}
-use mathlib.Core.Bool.{Bool, true, false}
+use mathlib.Core.Bool.{cond, Bool, true, false}
 use lib.ListN.{getD, replicate}
 use lib.Seq.{ext-getD}
 use native.Mathlib.Omega.{arith}
 use native.Mathlib.Decide.{decLt}
-use Rattle.text.specs.Choice.{pick}
 use Rattle.row.specs.declared.Row.{Row}
 use Rattle.row.specs.Row.{blankRow, isBlankRow}
 use Rattle.row.specs.Laws.Row.{blank-row}
@@ -21,7 +20,8 @@ use Rattle.board.specs.Laws.Rules.{blank-blank, fresh-valid, report-vali
 use Rattle.board.specs.Laws.Step.{report-shown}
 
 -- the place of a runway w that shows what the reports seen make it show goes on so
-pub shows-after : (b : Board) (w : Runway) (seen rs : List Row) (i : ℕ) → validBoard b ≡ true → i < b .count → runwayAt b i ≡ w → Shows w seen (shownAt b i) → Shows w (seen ++ rs) (shownAt (reports b rs) i)
+pub shows-after : (b : Board) (w : Runway) (seen rs : List Row) (i : ℕ) → validBoard b ≡ true → i < b .count → runwayAt b i ≡ w → Shows w seen (shownAt b i)
+    → Shows w (seen ++ rs) (shownAt (reports b rs) i)
 unfolding reports
 shows-after b w seen [] i v l e s = rw append-nil s
 shows-after b w seen (r ∷ rs) i v l e s =
@@ -44,7 +44,7 @@ nothing-at w i = subst (λ r. Shows w [] (shown r)) (sym (blank-at places i)) (r
 same-place : (p q : Row) → shown p ≡ shown q → p ≡ q
 same-place p q = go (isBlankRow p) refl (isBlankRow q) refl
   where
-    go : (x : Bool) → isBlankRow p ≡ x → (y : Bool) → isBlankRow q ≡ y → pick x nothing (row p) ≡ pick y nothing (row q) → p ≡ q
+    go : (x : Bool) → isBlankRow p ≡ x → (y : Bool) → isBlankRow q ≡ y → cond x nothing (row p) ≡ cond y nothing (row q) → p ≡ q
     go true e true f z = blank-row p e ∙ sym (blank-row q f)
     go true e false f z = let o : _≡_ {A = ℕ} 0 1 = cc in absurd (omega arith)
     go false e true f z = let o : _≡_ {A = ℕ} 0 1 = cc in absurd (omega arith)
@@ -71,6 +71,6 @@ pub opened-fresh : (a : List ℕ) (n : ℕ) (ws : List Runway) (b : Board) → o
 unfolding opening
 opened-fresh a n ws b taken = go (validList a n ws) refl taken
   where
-    go : (t : Bool) → validList a n ws ≡ t → pick t (answer 0 (fresh a n ws)) refusedOpening ≡ answer 0 b → (b ≡ fresh a n ws) × (validBoard b ≡ true)
+    go : (t : Bool) → validList a n ws ≡ t → cond t (answer 0 (fresh a n ws)) refusedOpening ≡ answer 0 b → (b ≡ fresh a n ws) × (validBoard b ≡ true)
     go true h f = let i = sym (ap (λ x. x .board) f) in (i, subst (λ c. validBoard c ≡ true) (sym i) (fresh-valid a n ws h))
     go false h f = let z = ap (λ x. x .refusal) f in absurd (omega arith)

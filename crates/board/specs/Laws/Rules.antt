@@ -2,12 +2,12 @@
 use Prim.Native.Nat.{ℕ, zero, suc, _<_, _≤_}
 use mathlib.Core.Path.{_≡_, refl, sym, subst, _∙_, ap}
 use mathlib.Core.List.{List, [], _∷_}
-use mathlib.Core.Bool.{Bool, true, false}
+use mathlib.Core.Bool.{cond, Bool, true, false}
 use lib.Dec.{eqb, ltb}
 use lib.ListN.{length, take, getD, set, replicate, length-take, length-set}
 use borrow.Author.Tests.{eqb-true, eq-eqb, ne-eqb, leb-true, ltb-true, lt-ltb, le-ltb}
 use native.Mathlib.Omega.{arith}
-use Rattle.text.specs.Choice.{pick, _and_}
+use Rattle.text.specs.Choice.{_and_}
 use Rattle.text.specs.Laws.Base.{and-1, and-2, and-i}
 use Rattle.row.specs.declared.Row.{Row}
 use Rattle.runway.specs.Time.{realTime, realDay}
@@ -17,7 +17,8 @@ use Rattle.text.specs.Refusals.{invalidRow, wrongBoard, notOnBoard, notLater}
 use Rattle.row.specs.Laws.Row.{blank-row}
 use Rattle.board.specs.declared.Runway.{Runway}
 use Rattle.board.specs.declared.Board.{Board}
-use Rattle.board.specs.Board.{blankRunway, comesBefore, rises, rising, validList, names, fitsPlace, fitPlaces, validPlaces, runwaysOf, validBoard, fresh, answer}
+use Rattle.board.specs.Board.{blankRunway, comesBefore, rises, rising, validList, names, fitsPlace, fitPlaces, validPlaces, runwaysOf, validBoard}
+use Rattle.board.specs.Board.{fresh, answer}
 use Rattle.board.specs.Report.{placeOf, rowAt, isNews, stored, report, reports}
 
 -- a blank row is blank, and no valid row is
@@ -63,14 +64,16 @@ fit-zeros [] (suc n) = and-i blank-blank (fit-zeros [] n)
 fit-zeros (w ∷ ws) zero = refl
 fit-zeros (w ∷ ws) (suc n) = and-i (fits-blank w) (fit-zeros ws n)
 
-fit-set : (d : Runway) (ws : List Runway) (rs : List Row) (i : ℕ) (r : Row) → fitPlaces ws rs ≡ true → i < length ws → fitsPlace (getD ws i d) r ≡ true → fitPlaces ws (set rs i r) ≡ true
+fit-set : (d : Runway) (ws : List Runway) (rs : List Row) (i : ℕ) (r : Row) → fitPlaces ws rs ≡ true → i < length ws → fitsPlace (getD ws i d) r ≡ true
+    → fitPlaces ws (set rs i r) ≡ true
 unfolding fitPlaces
 fit-set d [] rs i r h l f = absurd (omega arith)
 fit-set d (w ∷ ws) [] i r h l f = refl
 fit-set d (w ∷ ws) (s ∷ rs) zero r h l f = and-i f (and-2 _ _ h)
 fit-set d (w ∷ ws) (s ∷ rs) (suc i) r h l f = and-i (and-1 _ _ h) (fit-set d ws rs i r (and-2 _ _ h) (omega arith) f)
 
-pub fit-at : (d : Runway) (ws : List Runway) (rs : List Row) (i : ℕ) → fitPlaces ws rs ≡ true → i < length ws → fitsPlace (getD ws i d) (getD rs i blankRow) ≡ true
+pub fit-at : (d : Runway) (ws : List Runway) (rs : List Row) (i : ℕ) → fitPlaces ws rs ≡ true → i < length ws
+    → fitsPlace (getD ws i d) (getD rs i blankRow) ≡ true
 unfolding fitPlaces
 fit-at d [] rs i h l = absurd (omega arith)
 fit-at d (w ∷ ws) [] i h l = fits-blank (getD (w ∷ ws) i d)
@@ -91,7 +94,8 @@ unfolding placeOf
 place-names d r [] h = absurd (omega arith)
 place-names d r (w ∷ ws) h = go (names r w) refl (place-names d r ws) h
   where
-    go : (t : Bool) → names r w ≡ t → (placeOf r ws < length ws → names r (getD ws (placeOf r ws) d) ≡ true) → pick t 0 (suc (placeOf r ws)) < suc (length ws) → names r (getD (w ∷ ws) (pick t 0 (suc (placeOf r ws))) d) ≡ true
+    go : (t : Bool) → names r w ≡ t → (placeOf r ws < length ws → names r (getD ws (placeOf r ws) d) ≡ true)
+        → cond t 0 (suc (placeOf r ws)) < suc (length ws) → names r (getD (w ∷ ws) (cond t 0 (suc (placeOf r ws))) d) ≡ true
     go true e ih h = e
     go false e ih h = ih (omega arith)
 
@@ -100,12 +104,12 @@ pub before-trans : (a b c : Runway) → comesBefore a b ≡ true → comesBefore
 unfolding comesBefore
 before-trans a b c = go (eqb (a .number) (b .number)) refl (eqb (b .number) (c .number)) refl
   where
-    less : a .number < c .number → pick (eqb (a .number) (c .number)) (ltb (a .side) (c .side)) (ltb (a .number) (c .number)) ≡ true
+    less : a .number < c .number → cond (eqb (a .number) (c .number)) (ltb (a .side) (c .side)) (ltb (a .number) (c .number)) ≡ true
     less l = rw (ne-eqb (a .number) (c .number) (omega arith)) (lt-ltb (a .number) (c .number) l)
 
     go : (x : Bool) → eqb (a .number) (b .number) ≡ x → (y : Bool) → eqb (b .number) (c .number) ≡ y
-        → pick x (ltb (a .side) (b .side)) (ltb (a .number) (b .number)) ≡ true → pick y (ltb (b .side) (c .side)) (ltb (b .number) (c .number)) ≡ true
-        → pick (eqb (a .number) (c .number)) (ltb (a .side) (c .side)) (ltb (a .number) (c .number)) ≡ true
+        → cond x (ltb (a .side) (b .side)) (ltb (a .number) (b .number)) ≡ true → cond y (ltb (b .side) (c .side)) (ltb (b .number) (c .number)) ≡ true
+        → cond (eqb (a .number) (c .number)) (ltb (a .side) (c .side)) (ltb (a .number) (c .number)) ≡ true
     go true e true f p q =
         let i = eqb-true (a .number) (b .number) e in
         let j = eqb-true (b .number) (c .number) f in
@@ -219,11 +223,13 @@ module _ (b : Board) (r : Row) (v : validBoard b ≡ true) where
 abbrev pub takes : Board → Row → Bool
 takes b r = validBoard b and validRow r and ltb (placeOf r (runwaysOf b)) (b .count) and isNews r (rowAt b (placeOf r (runwaysOf b)))
 
-pub report-board : (b : Board) (r : Row) → report b r .board ≡ pick (takes b r) (stored b (placeOf r (runwaysOf b)) r) b
+pub report-board : (b : Board) (r : Row) → report b r .board ≡ cond (takes b r) (stored b (placeOf r (runwaysOf b)) r) b
 unfolding report _and_
-report-board b r = go (validBoard b) (validRow r) (ltb (placeOf r (runwaysOf b)) (b .count)) (isNews r (rowAt b (placeOf r (runwaysOf b)))) (stored b (placeOf r (runwaysOf b)) r)
+report-board b r = go (validBoard b) (validRow r) (ltb (placeOf r (runwaysOf b)) (b .count)) (isNews r (rowAt b (placeOf r (runwaysOf b))))
+    (stored b (placeOf r (runwaysOf b)) r)
   where
-    go : (x y z t : Bool) (c : Board) → pick x (pick y (pick z (pick t (answer 0 c) (answer notLater b)) (answer notOnBoard b)) (answer invalidRow b)) (answer wrongBoard b) .board ≡ pick (x and y and z and t) c b
+    go : (x y z t : Bool) (c : Board) → cond x (cond y (cond z (cond t (answer 0 c) (answer notLater b)) (answer notOnBoard b)) (answer invalidRow b))
+        (answer wrongBoard b) .board ≡ cond (x and y and z and t) c b
     go false y z t c = refl
     go true false z t c = refl
     go true true false t c = refl
@@ -264,7 +270,7 @@ stored-valid b r v h =
 pub report-valid : (b : Board) (r : Row) → validBoard b ≡ true → validBoard (report b r .board) ≡ true
 report-valid b r v = subst (λ c. validBoard c ≡ true) (sym (report-board b r)) (go (takes b r) refl)
   where
-    go : (t : Bool) → takes b r ≡ t → validBoard (pick t (stored b (placeOf r (runwaysOf b)) r) b) ≡ true
+    go : (t : Bool) → takes b r ≡ t → validBoard (cond t (stored b (placeOf r (runwaysOf b)) r) b) ≡ true
     go true e = stored-valid b r v e
     go false e = v
 
@@ -277,7 +283,7 @@ pub record SameList (b c : Board) : Type 0 where
 pub report-list : (b : Board) (r : Row) → SameList b (report b r .board)
 report-list b r = subst (SameList b) (sym (report-board b r)) (go (takes b r))
   where
-    go : (t : Bool) → SameList b (pick t (stored b (placeOf r (runwaysOf b)) r) b)
+    go : (t : Bool) → SameList b (cond t (stored b (placeOf r (runwaysOf b)) r) b)
     go true = record { aerodrome = refl; count = refl; runways = refl }
     go false = record { aerodrome = refl; count = refl; runways = refl }
 

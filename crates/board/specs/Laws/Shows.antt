@@ -1,9 +1,11 @@
 -- What a runway shows grows with the reports, is one row, and forgets their order where no two bear one time.
 use mathlib.Core.Path.{_≡_, refl, sym, subst, _∙_, ap}
-use mathlib.Core.List.{List, [], _∷_, _++_, append-assoc, List·Memᴰ, List·Memᴰ·head, List·Memᴰ·tail, List·Memᴰ·not-nil, List·Memᴰ·cases-cons, List·Memᴰ·append-cases, List·Memᴰ·eq-of-singleton, Memᴰ·append-right, List·Permᴰ, List·Permᴰ·nil, List·Permᴰ·cons, List·Permᴰ·swap, List·Permᴰ·trans}
-use mathlib.Core.Bool.{Bool, true, false}
+use mathlib.Core.List.{List, [], _∷_, _++_, append-assoc, List·Memᴰ, List·Memᴰ·head, List·Memᴰ·tail, List·Memᴰ·not-nil, List·Memᴰ·cases-cons}
+use mathlib.Core.List.{List·Memᴰ·append-cases, List·Memᴰ·eq-of-singleton, Memᴰ·append-right, List·Permᴰ, List·Permᴰ·nil, List·Permᴰ·cons, List·Permᴰ·swap}
+use mathlib.Core.List.{List·Permᴰ·trans}
+use mathlib.Core.Bool.{cond, Bool, true, false}
 use mathlib.Core.Logic.{inl, inr, _⊎_}
-use Rattle.text.specs.Choice.{pick, _and_}
+use Rattle.text.specs.Choice.{_and_}
 use Rattle.text.specs.Laws.Base.{true-false, and-1, and-2, and-i}
 use Rattle.row.specs.declared.Row.{Row}
 use Rattle.runway.specs.Time.{realTime, later}
@@ -23,7 +25,7 @@ newer r (row p) = later (r .time) (p .time)
 
 -- what a place shows after one more report
 abbrev pub next : Runway → Row → Shown → Shown
-next w r s = pick (validRow r and names r w and newer r s) (row r) s
+next w r s = cond (validRow r and names r w and newer r s) (row r) s
 
 module _ (w : Runway) where
   real : {r : Row} → ReportFor w r → realTime (r .time) ≡ true
@@ -47,7 +49,8 @@ module _ (w : Runway) where
   pub last-in : {rs : List Row} {p : Row} → Last w rs p → p isIn rs
   last-in {rs} {p} l = subst (λ k. List·Memᴰ p k) (sym (l .split)) (Memᴰ·append-right (l .before) (List·Memᴰ·head refl))
 
-  grow-none : (rs : List Row) (r : Row) → ((q : Row) → q isIn rs → ReportFor w q → ⊥) → (t : Bool) → (validRow r and names r w and true) ≡ t → Shows w (rs ++ r ∷ []) (pick t (row r) nothing)
+  grow-none : (rs : List Row) (r : Row) → ((q : Row) → q isIn rs → ReportFor w q → ⊥) → (t : Bool) → (validRow r and names r w and true) ≡ t
+      → Shows w (rs ++ r ∷ []) (cond t (row r) nothing)
   grow-none rs r h true e = shows-row (record {
     before = rs;
     after = [];
@@ -64,13 +67,15 @@ module _ (w : Runway) where
           let g = subst (ReportFor w) (List·Memᴰ·eq-of-singleton m) f in
           true-false (sym (and-i (g .valid) (and-i (g .named) refl)) ∙ e)
 
-  grow-row : (rs : List Row) (r p : Row) → Last w rs p → (t : Bool) → (validRow r and names r w and later (r .time) (p .time)) ≡ t → Shows w (rs ++ r ∷ []) (pick t (row r) (row p))
+  grow-row : (rs : List Row) (r p : Row) → Last w rs p → (t : Bool) → (validRow r and names r w and later (r .time) (p .time)) ≡ t
+      → Shows w (rs ++ r ∷ []) (cond t (row r) (row p))
   grow-row rs r p l true e = shows-row (record {
     before = rs;
     after = [];
     split = refl;
     for = whole r (later (r .time) (p .time)) e;
-    over = λ q m f. later-over (r .time) (p .time) (q .time) (real (whole r (later (r .time) (p .time)) e)) (real (l .for)) (real f) (and-2 _ _ (and-2 _ _ e)) (last-top l q m f);
+    over = λ q m f. later-over (r .time) (p .time) (q .time) (real (whole r (later (r .time) (p .time)) e)) (real (l .for)) (real f)
+        (and-2 _ _ (and-2 _ _ e)) (last-top l q m f);
     under = λ q m f. absurd (List·Memᴰ·not-nil m);
   })
   grow-row rs r p l false e = shows-row (record {
@@ -102,7 +107,8 @@ module _ (w : Runway) where
   empty = shows-none (λ q m f. List·Memᴰ·not-nil m)
 
   -- two lists of the same reports, no two of one time
-  pub shows-moved : {xs ys : List Row} {a b : Shown} → ((q : Row) → q isIn xs → q isIn ys) → ((q : Row) → q isIn ys → q isIn xs) → Apart w xs → Shows w xs a → Shows w ys b → a ≡ b
+  pub shows-moved : {xs ys : List Row} {a b : Shown} → ((q : Row) → q isIn xs → q isIn ys) → ((q : Row) → q isIn ys → q isIn xs) → Apart w xs → Shows w xs a
+      → Shows w ys b → a ≡ b
   shows-moved to from apart (shows-none h) (shows-none k) = refl
   shows-moved to from apart (shows-none h) (shows-row {r = q} k) = absurd (h q (from q (last-in k)) (k .for))
   shows-moved to from apart (shows-row {r = p} h) (shows-none k) = absurd (k p (to p (last-in h)) (h .for))

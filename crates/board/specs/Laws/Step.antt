@@ -1,13 +1,13 @@
 -- One report at one place: what the place shows goes on by `next`.
 use Prim.Native.Nat.{ℕ, _<_}
 use mathlib.Core.Path.{_≡_, refl, sym, subst, _∙_, ap}
-use mathlib.Core.Bool.{Bool, true, false}
+use mathlib.Core.Bool.{cond, Bool, true, false}
 use lib.Dec.{ltb}
 use lib.ListN.{getD}
 use lib.Seq.{getD-take, getD-set-same, getD-set-other}
 use borrow.Author.Tests.{lt-ltb}
 use native.Mathlib.Omega.{arith}
-use Rattle.text.specs.Choice.{pick, _and_}
+use Rattle.text.specs.Choice.{_and_}
 use Rattle.text.specs.Laws.Base.{true-false, and-1}
 use Rattle.row.specs.declared.Row.{Row}
 use Rattle.runway.specs.Time.{later}
@@ -28,7 +28,7 @@ news-newer : (r p : Row) → isNews r p ≡ newer r (shown p)
 unfolding isNews
 news-newer r p = go (isBlankRow p)
   where
-    go : (t : Bool) → pick t true (later (r .time) (p .time)) ≡ newer r (pick t nothing (row p))
+    go : (t : Bool) → cond t true (later (r .time) (p .time)) ≡ newer r (cond t nothing (row p))
     go true = refl
     go false = refl
 
@@ -54,7 +54,7 @@ module _ (b : Board) (v : validBoard b ≡ true) (r : Row) (i : ℕ) (l : i < b 
   unfolding _and_
   test n = rw (v, here n, lt-ltb i (b .count) l, n) (ap (λ x. validRow r and x) (news-newer r (rowAt b i)))
 
-  store : (t : Bool) → (t ≡ true → validRow r ≡ true) → shownAt (pick t (stored b i r) b) i ≡ pick t (row r) (shownAt b i)
+  store : (t : Bool) → (t ≡ true → validRow r ≡ true) → shownAt (cond t (stored b i r) b) i ≡ cond t (row r) (shownAt b i)
   store true h =
       let q = rules b v in
       let f = q .few in
@@ -67,23 +67,24 @@ module _ (b : Board) (v : validBoard b ≡ true) (r : Row) (i : ℕ) (l : i < b 
   unfolding _and_
   none n = rw n (go (validRow r))
     where
-      go : (t : Bool) → pick (t and false) (row r) (shownAt b i) ≡ shownAt b i
+      go : (t : Bool) → cond (t and false) (row r) (shownAt b i) ≡ shownAt b i
       go true = refl
       go false = refl
 
-  other : names r (runwayAt b i) ≡ false → (t : Bool) → takes b r ≡ t → shownAt (pick t (stored b k r) b) i ≡ shownAt b i
+  other : names r (runwayAt b i) ≡ false → (t : Bool) → takes b r ≡ t → shownAt (cond t (stored b k r) b) i ≡ shownAt b i
   other n false e = refl
   other n true e =
       let t = took b r (rules b v) e in
-      ap shown (getD-set-other (b .rows) k i r blankRow (λ z. true-false (sym (subst (λ j. names r (getD (runwaysOf b) j blankRunway) ≡ true) (sym z) (t .named)) ∙ (ap (names r) in-use ∙ n))))
+      ap shown (getD-set-other (b .rows) k i r blankRow
+      (λ z. true-false (sym (subst (λ j. names r (getD (runwaysOf b) j blankRunway) ≡ true) (sym z) (t .named)) ∙ (ap (names r) in-use ∙ n))))
 
   pub report-shown : shownAt (report b r .board) i ≡ next (runwayAt b i) r (shownAt b i)
   report-shown = ap (λ c. shownAt c i) (report-board b r) ∙ go (names r (runwayAt b i)) refl
     where
-      go : (t : Bool) → names r (runwayAt b i) ≡ t → shownAt (pick (takes b r) (stored b k r) b) i ≡ next (runwayAt b i) r (shownAt b i)
+      go : (t : Bool) → names r (runwayAt b i) ≡ t → shownAt (cond (takes b r) (stored b k r) b) i ≡ next (runwayAt b i) r (shownAt b i)
       go true n =
-          ap (λ j. shownAt (pick (takes b r) (stored b j r) b) i) (here n)
-          ∙ (ap (λ t. shownAt (pick t (stored b i r) b) i) (test n)
+          ap (λ j. shownAt (cond (takes b r) (stored b j r) b) i) (here n)
+          ∙ (ap (λ t. shownAt (cond t (stored b i r) b) i) (test n)
           ∙ store (validRow r and names r (runwayAt b i) and newer r (shownAt b i)) (λ h. and-1 _ _ h))
       go false n = other n (takes b r) refl ∙ sym (none n)
 
@@ -99,8 +100,10 @@ accepted : (b c : Board) (r : Row) → report b r ≡ answer 0 c → Accepted b 
 unfolding report _and_
 accepted b c r = go (validBoard b) refl (validRow r) refl (ltb (placeOf r (runwaysOf b)) (b .count)) refl (isNews r (rowAt b (placeOf r (runwaysOf b)))) refl
   where
-    go : (x : Bool) → validBoard b ≡ x → (y : Bool) → validRow r ≡ y → (z : Bool) → ltb (placeOf r (runwaysOf b)) (b .count) ≡ z → (t : Bool) → isNews r (rowAt b (placeOf r (runwaysOf b))) ≡ t
-        → pick x (pick y (pick z (pick t (answer 0 (stored b (placeOf r (runwaysOf b)) r)) (answer notLater b)) (answer notOnBoard b)) (answer invalidRow b)) (answer wrongBoard b) ≡ answer 0 c → Accepted b r c
+    go : (x : Bool) → validBoard b ≡ x → (y : Bool) → validRow r ≡ y → (z : Bool) → ltb (placeOf r (runwaysOf b)) (b .count) ≡ z → (t : Bool)
+        → isNews r (rowAt b (placeOf r (runwaysOf b))) ≡ t
+        → cond x (cond y (cond z (cond t (answer 0 (stored b (placeOf r (runwaysOf b)) r)) (answer notLater b)) (answer notOnBoard b))
+        (answer invalidRow b)) (answer wrongBoard b) ≡ answer 0 c → Accepted b r c
     go false p y q z k t m e = let o = ap (λ a. a .refusal) e in absurd (omega arith)
     go true p false q z k t m e = let o = ap (λ a. a .refusal) e in absurd (omega arith)
     go true p true q false k t m e = let o = ap (λ a. a .refusal) e in absurd (omega arith)

@@ -2,11 +2,11 @@
 use Prim.Native.Nat.{ℕ, suc, _≤_}
 use mathlib.Core.Path.{_≡_, refl, sym, _∙_}
 use mathlib.Core.List.{List, [], _∷_, _++_}
-use mathlib.Core.Bool.{Bool, true, false}
+use mathlib.Core.Bool.{cond, Bool, true, false}
 use lib.ListN.{length}
 use borrow.Author.Tests.{eqb-true, eq-eqb, le-leb}
 use native.Mathlib.Omega.{arith}
-use Rattle.text.specs.Choice.{pick, all, isEmpty}
+use Rattle.text.specs.Choice.{all, isEmpty}
 use Rattle.text.specs.Laws.Base.{and-1, and-2, and-i}
 use Rattle.row.specs.declared.Row.{Row}
 use Rattle.row.specs.Row.{validRow, isBlankRow}
@@ -41,7 +41,7 @@ all-valid [] rs h = rw (none-reported rs h)
 all-valid (w ∷ ws) [] h = refl
 all-valid (w ∷ ws) (r ∷ rs) h = go (isBlankRow r) refl (all-valid ws rs (and-2 _ _ h))
   where
-    go : (t : Bool) → isBlankRow r ≡ t → all validRow (reported rs) ≡ true → all validRow (pick t (reported rs) (r ∷ reported rs)) ≡ true
+    go : (t : Bool) → isBlankRow r ≡ t → all validRow (reported rs) ≡ true → all validRow (cond t (reported rs) (r ∷ reported rs)) ≡ true
     go true e ih = ih
     go false e ih = and-i (held w r e (and-1 _ _ h) .valid) ih
 
@@ -58,8 +58,9 @@ unfolding isAmong
 among-last q r [] h e = rw e
 among-last q r (s ∷ seen) h e = go (sameRunway s q) refl h (among-last q r seen)
   where
-    go : (t : Bool) → sameRunway s q ≡ t → pick t true (isAmong q seen) ≡ false → (isAmong q seen ≡ false → sameRunway r q ≡ false → isAmong q (seen ++ (r ∷ [])) ≡ false)
-        → pick t true (isAmong q (seen ++ (r ∷ []))) ≡ false
+    go : (t : Bool) → sameRunway s q ≡ t → cond t true (isAmong q seen) ≡ false
+        → (isAmong q seen ≡ false → sameRunway r q ≡ false → isAmong q (seen ++ (r ∷ [])) ≡ false)
+        → cond t true (isAmong q (seen ++ (r ∷ []))) ≡ false
     go true x k ih = k
     go false x k ih = ih k e
 
@@ -76,7 +77,8 @@ past-with w r seen m p q u c n = among-last q r seen (p q u c n) (differ (sameRu
         let l = eqb-true (r .side) (w .side) (and-2 _ _ m) in
         sym (and-i (eq-eqb (q .number) (w .number) (sym i ∙ k)) (eq-eqb (q .side) (w .side) (sym j ∙ l))) ∙ before-apart q w u c n
 
-new-runways : (v : Runway) (ws : List Runway) (rs seen : List Row) → rising v ws ≡ true → fitPlaces ws rs ≡ true → Past v seen → newRunways seen (reported rs) ≡ true
+new-runways : (v : Runway) (ws : List Runway) (rs seen : List Row) → rising v ws ≡ true → fitPlaces ws rs ≡ true → Past v seen
+    → newRunways seen (reported rs) ≡ true
 unfolding rising rises fitPlaces reported newRunways Past
 new-runways v [] rs seen h f p = rw (none-reported rs f)
 new-runways v (w ∷ ws) [] seen h f p = refl
@@ -85,7 +87,8 @@ new-runways v (w ∷ ws) (r ∷ rs) seen h f p = go (isBlankRow r) refl (λ s k.
     above : comesBefore v w ≡ true
     above = and-2 _ _ (and-1 _ _ h)
 
-    go : (t : Bool) → isBlankRow r ≡ t → ((s : List Row) → Past w s → newRunways s (reported rs) ≡ true) → newRunways seen (pick t (reported rs) (r ∷ reported rs)) ≡ true
+    go : (t : Bool) → isBlankRow r ≡ t → ((s : List Row) → Past w s → newRunways s (reported rs) ≡ true)
+        → newRunways seen (cond t (reported rs) (r ∷ reported rs)) ≡ true
     go true e ih = ih seen (past-on v w seen above p)
     go false e ih =
         let k = held w r e (and-1 _ _ f) in
@@ -101,7 +104,7 @@ unfolding reported
 few-reported [] = omega arith
 few-reported (r ∷ rs) = go (isBlankRow r) (few-reported rs)
   where
-    go : (t : Bool) → length (reported rs) ≤ length rs → length (pick t (reported rs) (r ∷ reported rs)) ≤ suc (length rs)
+    go : (t : Bool) → length (reported rs) ≤ length rs → length (cond t (reported rs) (r ∷ reported rs)) ≤ suc (length rs)
     go true h = omega arith
     go false h = omega arith
 
@@ -140,6 +143,7 @@ module _ (b : Board) (v : validBoard b ≡ true) (some : isEmpty (reported (b .r
 
     -- such a board is written, if there is room
     pub board-written : (room : ℕ) → length (noticeText (boardRecord b details (r .items) (r .language))) ≤ room
-        → writingBoard b details (r .items) (r .language) room ≡ record { refusal = 0; length = length (noticeText (boardRecord b details (r .items) (r .language))) }
+        → writingBoard b details (r .items) (r .language) room
+        ≡ record { refusal = 0; length = length (noticeText (boardRecord b details (r .items) (r .language))) }
     unfolding writingBoard writing
     board-written room fits = rw (v, some, board-record, le-leb (length (noticeText (boardRecord b details (r .items) (r .language)))) room fits)

@@ -2,12 +2,11 @@
 use Prim.Native.Nat.{ℕ, suc}
 use mathlib.Core.Path.{_≡_, refl, sym, _∙_, ap}
 use mathlib.Core.List.{List, []}
-use mathlib.Core.Bool.{Bool, true, false}
+use mathlib.Core.Bool.{cond, Bool, true, false}
 use lib.Dec.{eqb}
 use lib.ListN.{drop}
 use borrow.Author.Tests.{eqb-true}
 use native.Mathlib.Omega.{arith}
-use Rattle.text.specs.Choice.{pick}
 use Rattle.text.specs.Lines.{lines, linesSize}
 use Rattle.body.specs.declared.Rows.{Rows}
 use Rattle.body.specs.declared.RowsRead.{RowsRead}
@@ -17,14 +16,14 @@ use Rattle.body.specs.Code.Held.{noRows, RowsHeld}
 use Rattle.text.specs.Laws.Out.{no-refuse, took}
 
 -- `)` and an empty line are told apart
-one-end : (a b : Bool) (ls ks : List (List ℕ)) → pick a finished (more ls) ≡ pick b finished (more ks) → a ≡ b
+one-end : (a b : Bool) (ls ks : List (List ℕ)) → cond a finished (more ls) ≡ cond b finished (more ks) → a ≡ b
 one-end true true ls ks e = refl
 one-end false false ls ks e = refl
 one-end true false ls ks e = let z : _≡_ {A = ℕ} 0 1 = cc in absurd (omega arith)
 one-end false true ls ks e = let z : _≡_ {A = ℕ} 0 1 = cc in absurd (omega arith)
 
 module _ (m : List ℕ) (r : RowsRead) (h : RowsHeld m r) where
-  took-rows : r .refusal ≡ 0 → readRows mostRows [] (lines m) ≡ taken (block (rowsOf (r .rows)) (pick (r .closed) finished (more (lines (drop (r .next) m)))))
+  took-rows : r .refusal ≡ 0 → readRows mostRows [] (lines m) ≡ taken (block (rowsOf (r .rows)) (cond (r .closed) finished (more (lines (drop (r .next) m)))))
   took-rows z = h .says ∙ rw z
 
   refused-rows : eqb (r .refusal) 0 ≡ false → readRows mostRows [] (lines m) ≡ refuse (r .refusal)
@@ -33,7 +32,7 @@ module _ (m : List ℕ) (r : RowsRead) (h : RowsHeld m r) where
   blank-rows : eqb (r .refusal) 0 ≡ false → r ≡ noRows (r .refusal)
   blank-rows e = h .blank ∙ rw e
 
-  placed : r .refusal ≡ 0 → r .next ≡ pick (r .closed) 0 (linesSize (suc (r .rows .count)) m)
+  placed : r .refusal ≡ 0 → r .next ≡ cond (r .closed) 0 (linesSize (suc (r .rows .count)) m)
   placed z = h .place ∙ rw z
 
 pub rows-one : (m : List ℕ) (r s : RowsRead) → RowsHeld m r → RowsHeld m s → r ≡ s
@@ -45,10 +44,11 @@ rows-one m r s p q = go (eqb (r .refusal) 0) refl (eqb (s .refusal) 0) refl
         let y = eqb-true (s .refusal) 0 f in
         let t = sym (took-rows m r p x) ∙ took-rows m s q y in
         let rs = took (λ (b : Block). rowsOf (r .rows) ≡ b .rows) t refl in
-        let en = took (λ (b : Block). pick (r .closed) finished (more (lines (drop (r .next) m))) ≡ b .after) t refl in
+        let en = took (λ (b : Block). cond (r .closed) finished (more (lines (drop (r .next) m))) ≡ b .after) t refl in
         let c = one-end (r .closed) (s .closed) (lines (drop (r .next) m)) (lines (drop (s .next) m)) en in
         let rows : r .rows ≡ s .rows = p .kept .zeros ∙ ap makeRows rs ∙ sym (q .kept .zeros) in
-        let n : r .next ≡ s .next = placed m r p x ∙ ap (λ (v : Rows). pick (r .closed) 0 (linesSize (suc (v .count)) m)) rows ∙ ap (λ (b : Bool). pick b 0 (linesSize (suc (s .rows .count)) m)) c ∙ sym (placed m s q y) in
+        let n : r .next ≡ s .next = placed m r p x ∙ ap (λ (v : Rows). cond (r .closed) 0 (linesSize (suc (v .count)) m)) rows
+        ∙ ap (λ (b : Bool). cond b 0 (linesSize (suc (s .rows .count)) m)) c ∙ sym (placed m s q y) in
         λ i. record { refusal = (x ∙ sym y) i; rows = rows i; closed = c i; next = n i }
     go true e false f = no-refuse (sym (refused-rows m s q f) ∙ took-rows m r p (eqb-true (r .refusal) 0 e))
     go false e true f = no-refuse (sym (refused-rows m r p e) ∙ took-rows m s q (eqb-true (s .refusal) 0 f))

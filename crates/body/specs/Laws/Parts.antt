@@ -2,12 +2,12 @@
 use Prim.Native.Nat.{ℕ, suc, _≤_}
 use mathlib.Core.Path.{_≡_, refl, sym, subst}
 use mathlib.Core.List.{List, [], _∷_}
-use mathlib.Core.Bool.{Bool, true, false}
+use mathlib.Core.Bool.{cond, Bool, true, false}
 use lib.Dec.{leb}
 use lib.ListN.{length}
 use borrow.Author.Tests.{eqb-true, eq-eqb, leb-true, le-leb}
 use native.Mathlib.Omega.{arith}
-use Rattle.text.specs.Choice.{pick, _and_, all, isEmpty}
+use Rattle.text.specs.Choice.{_and_, all, isEmpty}
 use Rattle.text.specs.Arrays.{pad}
 use Rattle.text.specs.Laws.Base.{true-false, and-1, and-2, and-i}
 use Rattle.text.specs.Laws.Arrays.{array-there, array-back}
@@ -83,7 +83,7 @@ latest-one : (t s : ℕ) → realTime t ≡ true → realTime s ≡ true → rea
 unfolding latestOf
 latest-one t s h k = go (later s t)
   where
-    go : (b : Bool) → realTime (pick b s t) ≡ true
+    go : (b : Bool) → realTime (cond b s t) ≡ true
     go true = k
     go false = h
 

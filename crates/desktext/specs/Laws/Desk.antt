@@ -2,12 +2,11 @@
 use Prim.Native.Nat.{ℕ, _<_, _≤_}
 use mathlib.Core.Path.{_≡_, refl}
 use mathlib.Core.List.{List, [], _∷_}
-use mathlib.Core.Bool.{Bool, true, false}
+use mathlib.Core.Bool.{cond, Bool, true, false}
 use lib.Dec.{leb}
 use lib.ListN.{length, take}
 use borrow.Author.Tests.{le-leb, leb-true}
 use native.Mathlib.Omega.{arith}
-use Rattle.text.specs.Choice.{pick}
 use Rattle.text.specs.Piece.{Typing, canonical, end, _then_}
 use Rattle.text.specs.Read.{Got, misfit, got}
 use Rattle.row.specs.declared.Row.{Row}
@@ -24,7 +23,8 @@ use Rattle.board.specs.Shows.{nothing, row, shownAt}
 use Rattle.desktext.specs.Laws.Line.{line-sound, line-complete, shown-row, shown-nothing, line-size}
 
 -- a line opens a board exactly if it is the text of an aerodrome and a list that opening takes
-pub line-opens : (line a : List ℕ) (n : ℕ) (ws : List Runway) → validList a n ws ≡ true → Typing (openingPieces a (take n ws)) line → openingLine line ≡ answer 0 (fresh a n ws)
+pub line-opens : (line a : List ℕ) (n : ℕ) (ws : List Runway) → validList a n ws ≡ true → Typing (openingPieces a (take n ws)) line
+    → openingLine line ≡ answer 0 (fresh a n ws)
 line-opens = line-complete
 
 pub line-opened : (line : List ℕ) (b : Board) → openingLine line ≡ answer 0 b → Typing (openingPieces (b .aerodrome) (runwaysOf b)) line
@@ -40,7 +40,7 @@ pub no-report : (b : Board) (line : List ℕ) → ((r : Row) → length line ≤
 unfolding reportLine
 no-report b line none = go (leb (length line) 4096) refl (wholeRow line) refl
   where
-    go : (t : Bool) → leb (length line) 4096 ≡ t → (g : Got Row) → wholeRow line ≡ g → pick t (reportRead b g) (answer 5 b) ≡ answer 5 b
+    go : (t : Bool) → leb (length line) 4096 ≡ t → (g : Got Row) → wholeRow line ≡ g → cond t (reportRead b g) (answer 5 b) ≡ answer 5 b
     go false e g q = refl
     go true e misfit q = refl
     go true e (got r k) q = absurd (none r (leb-true (length line) 4096 e) (row-sound line q))
@@ -62,6 +62,6 @@ pub shown-size : (r : Row) → length (shownText r) ≤ 148
 unfolding shownText
 shown-size r = go (validRow r)
   where
-    go : (t : Bool) → length (pick t (canonical (rowPieces r then (end ∷ []))) []) ≤ 148
+    go : (t : Bool) → length (cond t (canonical (rowPieces r then (end ∷ []))) []) ≤ 148
     go true = let h = line-size r in omega arith
     go false = omega arith

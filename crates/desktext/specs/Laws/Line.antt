@@ -2,12 +2,12 @@
 use Prim.Native.Nat.{ℕ, _-_, _<_, _≤_, _^_}
 use mathlib.Core.Path.{_≡_, refl, sym, subst, _∙_, ap}
 use mathlib.Core.List.{List, [], _∷_}
-use mathlib.Core.Bool.{Bool, true, false}
+use mathlib.Core.Bool.{cond, Bool, true, false}
 use lib.ListN.{length, take, getD, replicate, length-append}
 use borrow.Author.Tests.{eqb-true, leb-true}
 use native.Mathlib.Omega.{arith}
 use Rattle.text.specs.Names.{isSpace, isLetter, readCount}
-use Rattle.text.specs.Choice.{pick, _and_, all, headIs}
+use Rattle.text.specs.Choice.{_and_, all, headIs}
 use Rattle.text.specs.Piece.{Typing, canonical, end, _then_}
 use Rattle.text.specs.Read.{Got, misfit, got, whole, readAs}
 use Rattle.text.specs.Arrays.{pad}
@@ -31,11 +31,12 @@ use Rattle.frontlines.specs.Heading.{aerodromeSize, readAerodrome}
 use Rattle.frontlines.specs.Laws.Letters.{letters-laws}
 use Rattle.board.specs.declared.Runway.{Runway}
 use Rattle.board.specs.declared.Board.{Board}
-use Rattle.board.specs.Board.{places, blankRunway, isBlankRunway, isAerodrome, rises, rising, validList, fitsPlace, runwaysOf, validBoard, fresh, answer, opening}
+use Rattle.board.specs.Board.{places, blankRunway, isBlankRunway, isAerodrome, rises, rising, validList, fitsPlace, runwaysOf, validBoard, fresh, answer}
+use Rattle.board.specs.Board.{opening}
 use Rattle.board.specs.Report.{rowAt}
 use Rattle.board.specs.Shows.{nothing, row, shownAt}
 use Rattle.board.specs.Laws.Rules.{blank-invalid, rules, used, fit-at}
-use Rattle.board.specs.Laws.Demand.{openingRead as was-opened}
+use Rattle.board.specs.Laws.Demand.{opened-fresh as was-opened}
 use Rattle.desktext.specs.Line.{spacedPieces, readSpaced, makeRunway, openingPieces, readOpening, openingRead, openingLine}
 
 -- a number of two digits and a side: what a line can hold
@@ -53,7 +54,8 @@ one-space (b ∷ c ∷ l) e h = absurd (omega arith)
 
 pub spaced-laws : Laws Written spacedPieces (readAs makeRunway readSpaced) (Head isSpace) (λ r. headIs isSide r ≡ false)
 unfolding readSpaced _and_
-spaced-laws = as-laws (as-laws (seq-laws (count-laws isSpace space-inner 0) runway-laws (λ m h. tt)) (λ p. (p .0 < 10 ^ 2) × (p .1 ≤ 3)) (λ p. p .1) (λ p. (32 ∷ [], p))
+spaced-laws = as-laws (as-laws (seq-laws (count-laws isSpace space-inner 0) runway-laws (λ m h. tt)) (λ p. (p .0 < 10 ^ 2) × (p .1 ≤ 3)) (λ p. p .1)
+    (λ p. (32 ∷ [], p))
     (λ p v. (v .1, (λ i. (one-space (p .0) (v .0 .0) (v .0 .1) i, p .1)))) (λ p v. (((refl, refl), v), refl)))
     Written makeRunway (λ w. (w .number, w .side)) (λ p v. (v, refl)) (λ w v. (v, refl))
 
@@ -66,7 +68,8 @@ nothing-spaced : readAs makeRunway readSpaced [] ≡ misfit
 unfolding readSpaced readCount
 nothing-spaced = refl
 
-opening-laws : Laws (λ p. (isLetters aerodromeSize (p .0) ≡ true) × ((length (p .1) ≤ places) × Every Written (p .1))) (λ p. openingPieces (p .0) (p .1)) readOpening (Head isLetter) Ends
+opening-laws : Laws (λ p. (isLetters aerodromeSize (p .0) ≡ true) × ((length (p .1) ≤ places) × Every Written (p .1)))
+    (λ p. openingPieces (p .0) (p .1)) readOpening (Head isLetter) Ends
 unfolding readOpening openingPieces readAerodrome
 opening-laws = seq-laws (letters-laws 3) (loosen (many-laws spaced-laws space-no-side places) {s = Any} (λ m h. tt) ends) (λ m h. h)
   where
@@ -102,10 +105,12 @@ line-sound line b e = go (whole (readOpening line)) refl e
     go (got p r) q f =
         let o = was-opened (p .0) (length (p .1)) (pad places blankRunway (p .1)) b f .0 in
         let t = whole-sound opening-laws {m = line} q .1 in
-        subst (λ c. Typing (openingPieces (c .aerodrome) (runwaysOf c)) line) (sym o) (rw (take-front (p .1) (replicate (places - length (p .1)) blankRunway)) t)
+        subst (λ c. Typing (openingPieces (c .aerodrome) (runwaysOf c)) line) (sym o)
+        (rw (take-front (p .1) (replicate (places - length (p .1)) blankRunway)) t)
 
 -- the text of an aerodrome and a list that opening takes opens that board
-pub line-complete : (line a : List ℕ) (n : ℕ) (ws : List Runway) → validList a n ws ≡ true → Typing (openingPieces a (take n ws)) line → openingLine line ≡ answer 0 (fresh a n ws)
+pub line-complete : (line a : List ℕ) (n : ℕ) (ws : List Runway) → validList a n ws ≡ true → Typing (openingPieces a (take n ws)) line
+    → openingLine line ≡ answer 0 (fresh a n ws)
 unfolding openingLine opening validList isAerodrome
 line-complete line a n ws h t =
     let h₁ = and-2 _ _ h in
@@ -127,7 +132,7 @@ shown-row b v i l r e = go (isBlankRow (rowAt b i)) refl e
     fit : fitsPlace (getD (runwaysOf b) i blankRunway) (rowAt b i) ≡ true
     fit = let k = rules b v in let u = used b k in fit-at blankRunway (runwaysOf b) (b .rows) i (k .fit) (omega arith)
 
-    go : (t : Bool) → isBlankRow (rowAt b i) ≡ t → pick t nothing (row (rowAt b i)) ≡ row r → (validRow r ≡ true) × (rowAt b i ≡ r)
+    go : (t : Bool) → isBlankRow (rowAt b i) ≡ t → cond t nothing (row (rowAt b i)) ≡ row r → (validRow r ≡ true) × (rowAt b i ≡ r)
     go true q f = let o : _≡_ {A = ℕ} 0 1 = cc in absurd (omega arith)
     go false q f =
         let s : rowAt b i ≡ r = cc in
@@ -137,7 +142,7 @@ shown-row b v i l r e = go (isBlankRow (rowAt b i)) refl e
 pub shown-nothing : (b : Board) (i : ℕ) → shownAt b i ≡ nothing → validRow (rowAt b i) ≡ false
 shown-nothing b i e = go (isBlankRow (rowAt b i)) refl e
   where
-    go : (t : Bool) → isBlankRow (rowAt b i) ≡ t → pick t nothing (row (rowAt b i)) ≡ nothing → validRow (rowAt b i) ≡ false
+    go : (t : Bool) → isBlankRow (rowAt b i) ≡ t → cond t nothing (row (rowAt b i)) ≡ nothing → validRow (rowAt b i) ≡ false
     go true q f = ap validRow (blank-row (rowAt b i) q) ∙ blank-invalid
     go false q f = let o : _≡_ {A = ℕ} 0 1 = cc in absurd (omega arith)
 

@@ -13,7 +13,7 @@ use Rattle.front.specs.Code.Front.{frontCount, blankFront, fillLine, fil
 use Rattle.front.proofs.Opening.{fill-addresses, fill-filing, fill-heading, fill-serial, fill-aerodrome, line-missing, step-on, step-off, front-read, front-refused}
 use borrow.Author.Needs.{needs}
 use borrow.Author.Tests.{not-true, not-false}
-use Rattle.text.specs.Choice.{pick}
+use mathlib.Core.Bool.{cond}
 use Rattle.text.specs.Read.{got, misfit}
 use Rattle.front.proofs.read_front.Statement.{statement}
 use Rattle.front.proofs.read_front.Tie as tie
@@ -91,7 +91,7 @@ line f = let at = f .before .before .before .before .lines .at in take (at + f .
 
 -- read into the front by the arm that its number takes
 filled : (c : tie.At-match-came Inv-lines μ-lines)
-    → (let f = c .before .before .before .before in let l = f .before .before .before .before .lines in fillLine (l .k) (l .front) (line f) ≡ pick (c .match .fits) (got (c .match .front) []) misfit)
+    → (let f = c .before .before .before .before in let l = f .before .before .before .before .lines in fillLine (l .k) (l .front) (line f) ≡ cond (c .match .fits) (got (c .match .front) []) misfit)
 filled c =
     let f = c .before .before .before .before in
     let l = f .before .before .before .before .lines in

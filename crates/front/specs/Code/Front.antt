@@ -4,7 +4,7 @@ use mathlib.Core.Path.{_≡_}
 use mathlib.Core.List.{List, [], _∷_, _++_}
 use lib.Dec.{eqb, ltb}
 use lib.ListN.{length, drop}
-use Rattle.text.specs.Choice.{pick}
+use mathlib.Core.Bool.{cond}
 use Rattle.text.specs.Piece.{canonical}
 use Rattle.text.specs.Lines.{lines, linesSize}
 use Rattle.text.specs.Read.{Got, readAs, whole}
@@ -55,15 +55,15 @@ frontCount = 5
 -- a line by its place, counted from 0, read whole into the front
 unfoldable pub fillLine : ℕ → Front → List ℕ → Got Front
 fillLine k f l =
-    pick (eqb k 0) (readAs (withAddresses f) (λ m. whole (readAddresses m)) l)
-    (pick (eqb k 1) (readAs (withFiling f) (λ m. whole (readFiling m)) l)
-    (pick (eqb k 2) (readAs (withHeading f) (λ m. whole (readHeading m)) l)
-    (pick (eqb k 3) (readAs (withSerial f) (λ m. whole (readSerialLine m)) l)
+    cond (eqb k 0) (readAs (withAddresses f) (λ m. whole (readAddresses m)) l)
+    (cond (eqb k 1) (readAs (withFiling f) (λ m. whole (readFiling m)) l)
+    (cond (eqb k 2) (readAs (withHeading f) (λ m. whole (readHeading m)) l)
+    (cond (eqb k 3) (readAs (withSerial f) (λ m. whole (readSerialLine m)) l)
     (readAs (withAerodrome f) (λ m. whole (readAerodrome m)) l))))
 
 -- its refusal, also where it is missing
 unfoldable pub lineRefusal : ℕ → ℕ
-lineRefusal k = pick (ltb k 2) lineOneOrTwo (pick (eqb k 2) lineThree outline)
+lineRefusal k = cond (ltb k 2) lineOneOrTwo (cond (eqb k 2) lineThree outline)
 
 -- one line more, and the lines behind it
 unfoldable pub nextLine : ℕ → Front → List (List ℕ) → Out (Front × List (List ℕ))
@@ -81,14 +81,14 @@ noFront n = record { refusal = n; front = blankFront; next = 0 }
 
 -- the answer of the loop over lines 1 to 5: the front, or the refusal that left it
 unfoldable pub frontAnswer : ℕ → Front → ℕ → FrontRead
-frontAnswer n f at = pick (eqb n 0) (record { refusal = 0; front = f; next = at }) (noFront n)
+frontAnswer n f at = cond (eqb n 0) (record { refusal = 0; front = f; next = at }) (noFront n)
 
 -- the answer r is the reading of the front of m; what is below it starts behind five lines
 pub record FrontHeld (m : List ℕ) (r : FrontRead) : Type 0 where
   pub within : r .next ≤ length m
-  pub says : fillLines frontCount 0 blankFront (lines m) ≡ pick (eqb (r .refusal) 0) (taken (r .front, lines (drop (r .next) m))) (refuse (r .refusal))
-  pub place : r .next ≡ pick (eqb (r .refusal) 0) (linesSize frontCount m) 0
-  pub blank : r ≡ pick (eqb (r .refusal) 0) r (noFront (r .refusal))
+  pub says : fillLines frontCount 0 blankFront (lines m) ≡ cond (eqb (r .refusal) 0) (taken (r .front, lines (drop (r .next) m))) (refuse (r .refusal))
+  pub place : r .next ≡ cond (eqb (r .refusal) 0) (linesSize frontCount m) 0
+  pub blank : r ≡ cond (eqb (r .refusal) 0) r (noFront (r .refusal))
 
 -- lines 1 to 5, one under the other
 abbrev pub frontText : Addresses → Filing → Title → ℕ → List ℕ

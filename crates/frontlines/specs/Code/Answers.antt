@@ -2,9 +2,8 @@
 use Prim.Native.Nat.{ℕ, _≤_}
 use mathlib.Core.Path.{_≡_}
 use mathlib.Core.List.{List}
-use mathlib.Core.Bool.{true, false}
+use mathlib.Core.Bool.{cond, true, false}
 use lib.ListN.{length, take, drop, replicate}
-use Rattle.text.specs.Choice.{pick}
 use Rattle.text.specs.Read.{Got, misfit, got}
 use Rattle.text.specs.Arrays.{pad, flat}
 use Rattle.text.specs.declared.Found.{Found}
@@ -68,4 +67,4 @@ regionAt m = take 2 (drop 2 m)
 -- the answer r is the reading of `SW`, these letters and the serial
 pub record Designated (m : List ℕ) (r : Found) : Type 0 where
   pub within : r .next ≤ length m
-  pub says : readDesignator m ≡ pick (r .fits) (got (regionAt m, r .value) (drop (r .next) m)) misfit
+  pub says : readDesignator m ≡ cond (r .fits) (got (regionAt m, r .value) (drop (r .next) m)) misfit

@@ -20,7 +20,8 @@ use Rattle.text.specs.Laws.Arrays.{pad-length, replicate-zeros, wide, slots-fla
 use Rattle.text.specs.Laws.Sizes.{size, cons-size, append-size, spell-size, verbatim-size, all-size, name-size}
 use Rattle.text.specs.Laws.Lines.{Ends}
 use Rattle.frontlines.specs.Letters.{isLetters}
-use Rattle.frontlines.specs.Addresses.{priorityName, priorities, mostAddresses, addressSize, addressRoom, addressesOf, makeAddresses, addressPieces, addressesPieces, readPriority, readAddress, readAddresses, validAddresses}
+use Rattle.frontlines.specs.Addresses.{priorityName, priorities, mostAddresses, addressSize, addressRoom, addressesOf, makeAddresses, addressPieces}
+use Rattle.frontlines.specs.Addresses.{addressesPieces, readPriority, readAddress, readAddresses, validAddresses}
 use Rattle.frontlines.specs.Laws.Letters.{letters-long, letters-laws, letter-no-space}
 use Rattle.frontlines.specs.declared.Addresses.{Addresses}
 
@@ -72,9 +73,11 @@ module _ (p : ℕ × List (List ℕ)) (v : Listed p) where
       and-i (v .0 .0)
       (and-i (some-length (p .1) (v .1))
       (and-i (le-leb (length (p .1)) mostAddresses (v .0 .1 .0))
-      (and-i (eq-eqb (length (pad addressRoom 0 (flat (p .1)))) addressRoom (pad-length addressRoom 0 (flat (p .1)) (flat-fits (p .1) (v .0 .1 .0) (v .0 .1 .1))))
+      (and-i (eq-eqb (length (pad addressRoom 0 (flat (p .1)))) addressRoom
+      (pad-length addressRoom 0 (flat (p .1)) (flat-fits (p .1) (v .0 .1 .0) (v .0 .1 .1))))
       (and-i (subst (λ as′. all (isLetters addressSize) as′ ≡ true) (sym list-back) (every-all Address (isLetters addressSize) (λ l h. h) (p .1) (v .0 .1 .1)))
-      (subst (λ k. all isZero k ≡ true) (sym (past-flat addressSize (p .1) behind all-wide8)) (replicate-zeros 0 isZero refl (addressRoom - length (flat (p .1)))))))))
+      (subst (λ k. all isZero k ≡ true) (sym (past-flat addressSize (p .1) behind all-wide8))
+      (replicate-zeros 0 isZero refl (addressRoom - length (flat (p .1)))))))))
 
 -- valid addresses, as a list and back
 module _ (a : Addresses) (h : validAddresses a ≡ true) where
@@ -84,7 +87,13 @@ module _ (a : Addresses) (h : validAddresses a ≡ true) where
       let n = slots-length addressSize (a .count) (a .letters) in
       let v = h in
       let m = leb-true (a .count) mostAddresses (and-1 _ _ (and-2 _ _ (and-2 _ _ v))) in (
-        (and-1 _ _ v, (subst (λ c. c ≤ mostAddresses) (sym n) m, all-every Address (isLetters addressSize) (λ l k. k) (addressesOf a) (and-1 _ _ (and-2 _ _ (and-2 _ _ (and-2 _ _ (and-2 _ _ v))))))),
+        (
+          and-1 _ _ v,
+          (
+            subst (λ c. c ≤ mostAddresses) (sym n) m,
+            all-every Address (isLetters addressSize) (λ l k. k) (addressesOf a) (and-1 _ _ (and-2 _ _ (and-2 _ _ (and-2 _ _ (and-2 _ _ v))))),
+          ),
+        ),
         some-some (addressesOf a) (a .count) n (and-1 _ _ (and-2 _ _ v)),
       )
 
@@ -106,7 +115,8 @@ address-laws = gap-laws (letters-laws 7) letter-no-space
 pub addresses-laws : Laws (λ a. validAddresses a ≡ true) addressesPieces readAddresses (Head isLetter) Ends
 unfolding readAddresses addressesPieces
 addresses-laws = as-laws
-    (loosen (if-laws (seq-laws priority-laws (many-laws address-laws (λ m h. tt) mostAddresses) (λ m h. tt)) (λ p. not (isEmpty (p .1)))) (λ m h. h) (λ m h. (tt, no-address m h)))
+    (loosen (if-laws (seq-laws priority-laws (many-laws address-laws (λ m h. tt) mostAddresses) (λ m h. tt)) (λ p. not (isEmpty (p .1)))) (λ m h. h)
+    (λ m h. (tt, no-address m h)))
     (λ a. validAddresses a ≡ true) (λ p. makeAddresses (p .0) (p .1)) (λ a. (a .priority, addressesOf a))
     (λ p v. (list-valid p v, ap (λ as′. (p .0, as′)) (list-back p v))) (λ a v. (array-listed a v, array-back a v))
 

@@ -17,7 +17,8 @@ use Rattle.text.specs.Laws.Sizes.{size, cons-size, append-size, digits-size, sp
 use Rattle.text.specs.Laws.Lines.{Ends}
 use Rattle.runway.specs.Time.{realTime, realDay}
 use Rattle.frontlines.specs.Letters.{isLetters}
-use Rattle.frontlines.specs.Heading.{regionSize, aerodromeSize, Heading, isSerial, readSerial, designatorPieces, readDesignator, headingPieces, makeHeading, readHeading, validTitle, validHeading, serialPieces, readSerialLine, aerodromePieces, readAerodrome}
+use Rattle.frontlines.specs.Heading.{regionSize, aerodromeSize, Heading, isSerial, readSerial, designatorPieces, readDesignator, headingPieces}
+use Rattle.frontlines.specs.Heading.{makeHeading, readHeading, validTitle, validHeading, serialPieces, readSerialLine, aerodromePieces, readAerodrome}
 use Rattle.frontlines.specs.Laws.Letters.{letters-long, letters-laws, letter-no-space}
 
 -- an observation time has eight digits
@@ -35,14 +36,16 @@ sw : inline (spell (bytes "SW")) ≡ true
 unfolding inline spell _and_
 sw = refl
 
-pub designator-laws : Laws (λ d. (isLetters regionSize (d .0) ≡ true) × (isSerial (d .1) ≡ true)) (λ d. designatorPieces (d .0) (d .1)) readDesignator (Head (eqb 83)) Any
+pub designator-laws : Laws (λ d. (isLetters regionSize (d .0) ≡ true) × (isSerial (d .1) ≡ true)) (λ d. designatorPieces (d .0) (d .1)) readDesignator
+    (Head (eqb 83)) Any
 designator-laws = after-laws (seq-laws (letters-laws 1) serial-laws (λ m h. tt)) 83 (bytes "W") sw (λ m h. refl)
 
 pub heading-laws : Laws (λ h. validHeading h ≡ true) headingPieces readHeading (Head (eqb 83)) Ends
 unfolding readHeading headingPieces validTitle validHeading
 heading-laws = as-laws
     (loosen (seq-laws designator-laws
-    (seq-laws (gap-laws (letters-laws 3) letter-no-space) (gap-laws (if-laws (digits-laws 7) realTime) (not-space isDigit refl)) (λ m h. tt)) (λ m h. tt)) (λ m h. h) (λ m h. tt))
+    (seq-laws (gap-laws (letters-laws 3) letter-no-space) (gap-laws (if-laws (digits-laws 7) realTime) (not-space isDigit refl)) (λ m h. tt)) (λ m h. tt))
+    (λ m h. h) (λ m h. tt))
     (λ h. validHeading h ≡ true) makeHeading (λ h. ((h .title .region, h .title .serial), (h .title .aerodrome, h .time)))
     (λ p v. (and-i (and-i (v .0 .0) (and-i (v .0 .1) (v .1 .0))) (v .1 .1 .1), refl))
     (λ h v. let t = and-1 _ _ v in let w = and-2 _ _ t in let r = and-2 _ _ v in (((and-1 _ _ t, and-1 _ _ w), (and-2 _ _ w, (time-low (h .time) r, r))), refl))
@@ -69,7 +72,20 @@ heading-size h v =
     let t = and-1 _ _ v in
     let a = letters-long regionSize (h .title .region) (and-1 _ _ t) in
     let b = letters-long aerodromeSize (h .title .aerodrome) (and-2 _ _ (and-2 _ _ t)) in
-    rw (append-size, append-size (spell (bytes "SW")) _, spell-size, append-size (verbatim (h .title .region)) _, digits-size, cons-size, append-size (verbatim (h .title .aerodrome)) _, cons-size, digits-size, verbatim-size (h .title .region), verbatim-size (h .title .aerodrome)) (omega arith)
+    rw (
+      append-size,
+      append-size (spell (bytes "SW")) _,
+      spell-size,
+      append-size (verbatim (h .title .region)) _,
+      digits-size,
+      cons-size,
+      append-size (verbatim (h .title .aerodrome)) _,
+      cons-size,
+      digits-size,
+      verbatim-size (h .title .region),
+      verbatim-size (h .title .aerodrome),
+    )
+    (omega arith)
 
 pub serial-size : (n : ℕ) → size (serialPieces n) ≤ 13
 unfolding serialPieces

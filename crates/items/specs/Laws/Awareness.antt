@@ -79,7 +79,10 @@ unfolding awarenessPieces validItems soundItems inline inOrder
 aware-within [] v = refl
 aware-within (i ∷ is) v =
     let k : length is ≤ 31 = let h = leb-true (suc (length is)) 32 (and-1 _ _ v) in omega arith in
-    some-laws .within (i, is) (and-1 _ _ (and-1 _ _ (and-2 _ _ v)), (k, all-every (λ i. validItem i ≡ true) validItem (λ i h. h) is (and-2 _ _ (and-1 _ _ (and-2 _ _ v)))))
+    some-laws .within (i, is) (
+      and-1 _ _ (and-1 _ _ (and-2 _ _ v)),
+      (k, all-every (λ i. validItem i ≡ true) validItem (λ i h. h) is (and-2 _ _ (and-1 _ _ (and-2 _ _ v)))),
+    )
 
 pub awareness-laws : Laws (λ is. validItems is ≡ true) awarenessPieces readAwareness Any (λ r. r ≡ [])
 awareness-laws = record { sound = λ {a} {m} e. aware-sound m e; complete = aware-complete; starts = λ is v t h. tt; within = aware-within }

@@ -2,12 +2,12 @@
 use Prim.Native.Nat.{ℕ, zero, suc, _-_, _^_, _<_, _≤_}
 use mathlib.Core.Path.{_≡_, refl, sym}
 use mathlib.Core.List.{List, [], _∷_, _++_}
-use mathlib.Core.Bool.{Bool, true, false, not}
+use mathlib.Core.Bool.{cond, Bool, true, false, not}
 use lib.Dec.{eqb, leb}
 use lib.ListN.{length}
 use borrow.Author.Tests.{ne-eqb, leb-true, lt-leb, not-true}
 use native.Mathlib.Omega.{arith}
-use Rattle.text.specs.Choice.{pick, _and_, all, isEmpty, member, headIs}
+use Rattle.text.specs.Choice.{_and_, all, isEmpty, member, headIs}
 use Rattle.text.specs.Piece.{Piece, gap, byte1, Typed, step, bytes, spell, verbatim, layAll}
 use Rattle.text.specs.Read.{misfit, skip, readText, readGap, readIf}
 use Rattle.text.specs.Names.{isLetter, isName, run, readRun, readName}
@@ -22,7 +22,9 @@ use Rattle.runway.specs.Laws.Runway.{runway-laws}
 use Rattle.items.specs.declared.Item.{Item}
 use Rattle.items.specs.Item.{isTaxiway, nameAtFront, letterI, letterJ, letterM, letterP, letterR}
 use Rattle.items.specs.ItemText.{taxiwaysOf, edgeName}
-use Rattle.items.specs.ReadItem.{openings, sayings, saying, taxiSayings, taxiSaying, edges, readLength, readBank, readNeither, readDetail, runwayItem, bareItem, taxiItem, apronItem, readTaxiway, readTaxiways, isApron, readApron, readRunwayForm, readTaxiForm, readApronForm, readBareForm, readForm}
+use Rattle.items.specs.ReadItem.{openings, sayings, saying, taxiSayings, taxiSaying, edges, readLength, readBank, readNeither, readDetail, runwayItem}
+use Rattle.items.specs.ReadItem.{bareItem, taxiItem, apronItem, readTaxiway, readTaxiways, isApron, readApron, readRunwayForm, readTaxiForm}
+use Rattle.items.specs.ReadItem.{readApronForm, readBareForm, readForm}
 use Rattle.items.specs.Laws.Slots.{Taxiway, name-there, taxiways-there}
 
 abbrev pub Stopped : List ℕ → Type 0
@@ -51,11 +53,12 @@ Detail false true d = (member edges (d .0) ≡ true) × (d .1 < 10 ^ 2)
 Detail false false d = Unit {0} × ((0, 0) ≡ d)
 
 abbrev pub detailPieces : Bool → Bool → ℕ × ℕ → List Piece
-detailPieces a b d = pick a (gap ∷ number 3 (d .1)) (pick b (gap ∷ (spell (edgeName (d .0)) ++ (digits 2 (d .1) ++ spell (bytes " FM CL")))) [])
+detailPieces a b d = cond a (gap ∷ number 3 (d .1)) (cond b (gap ∷ (spell (edgeName (d .0)) ++ (digits 2 (d .1) ++ spell (bytes " FM CL")))) [])
 
-detail-laws : (a b : Bool) → Laws (Detail a b) (detailPieces a b) (pick a readLength (pick b readBank readNeither)) Any Stopped
+detail-laws : (a b : Bool) → Laws (Detail a b) (detailPieces a b) (cond a readLength (cond b readBank readNeither)) Any Stopped
 unfolding readLength readBank readNeither
-detail-laws true b = loosen (made-laws (gap-laws (number-laws 2) (not-space isDigit refl)) (λ n. (0, n)) (λ d. d .1) (λ n v. refl)) (λ m h. tt) (head-not 46 isDigit refl)
+detail-laws true b = loosen (made-laws (gap-laws (number-laws 2) (not-space isDigit refl)) (λ n. (0, n)) (λ d. d .1) (λ n v. refl)) (λ m h. tt)
+    (head-not 46 isDigit refl)
 detail-laws false true = loosen (gap-laws (seq-laws (name-laws wordOn (λ r. wordNext r ≡ false) on-misfit isLetter edgeName edges edges-good)
     (before-laws (digits-laws 1) 32 (bytes "FM CL") fm-cl (λ m h. tt)) digit-no-word) (not-space isLetter refl)) (λ m h. tt) (λ m h. refl)
 detail-laws false false = loosen (made-laws (nothing-laws Stopped) (λ _. (0, 0)) (λ _. tt) (λ a v. refl)) (λ m h. tt) (λ m h. h)
@@ -77,7 +80,8 @@ WeakRunway p = ((p .0 .0 < 10 ^ 2) × (p .0 .1 ≤ 3)) × ((member sayings (p .1
 abbrev pub runwayForm : RunwayItem → List Piece
 runwayForm p = gap ∷ (runwayPieces (p .0 .0) (p .0 .1) ++ (spell (saying (p .1 .0)) ++ detailPieces (eqb (p .1 .0) letterI) (eqb (p .1 .0) letterM) (p .1 .1)))
 
-runway-form : Laws (λ i. WeakRunway (takeRunway i) × (runwayItem (takeRunway i) ≡ i)) (λ i. runwayForm (takeRunway i)) readRunwayForm (Gap (Head isDigit)) Stopped
+runway-form : Laws (λ i. WeakRunway (takeRunway i) × (runwayItem (takeRunway i) ≡ i)) (λ i. runwayForm (takeRunway i)) readRunwayForm
+    (Gap (Head isDigit)) Stopped
 unfolding readRunwayForm readDetail
 runway-form = made-laws (gap-laws (seq-laws runway-laws
     (bind-laws (table-laws (eqb 32) saying sayings sayings-good) (λ l _. detail-laws (eqb l letterI) (eqb l letterM)) (λ m h. tt))
@@ -103,9 +107,11 @@ poor : inline (spell (bytes " POOR")) ≡ true
 unfolding inline spell _and_
 poor = refl
 
-apron-form : Laws (λ i. Apron (nameAtFront (i .name)) × (apronItem (nameAtFront (i .name)) ≡ i)) (λ i. gap ∷ (verbatim (nameAtFront (i .name)) ++ spell (bytes " POOR"))) readApronForm (Gap (Head isName)) Any
+apron-form : Laws (λ i. Apron (nameAtFront (i .name)) × (apronItem (nameAtFront (i .name)) ≡ i))
+    (λ i. gap ∷ (verbatim (nameAtFront (i .name)) ++ spell (bytes " POOR"))) readApronForm (Gap (Head isName)) Any
 unfolding readApronForm
-apron-form = loosen (made-laws (gap-laws (before-laws apron-laws 32 (bytes "POOR") poor (head-not 32 isName refl)) (not-space isName refl)) apronItem (λ i. nameAtFront (i .name))
+apron-form = loosen (made-laws (gap-laws (before-laws apron-laws 32 (bytes "POOR") poor (head-not 32 isName refl)) (not-space isName refl)) apronItem
+    (λ i. nameAtFront (i .name))
     (λ w v. name-there w (16 - length w) (v .0))) (λ m h. h) (λ m h. refl)
 
 -- taxiways
@@ -127,7 +133,8 @@ Word w = (all isName w ≡ true) × (not (isEmpty w) ≡ true)
 word-laws : Laws Word verbatim (readIf (λ w. not (isEmpty w)) (readRun isName)) (Head isName) (λ r. headIs isName r ≡ false)
 word-laws = restart (if-laws (run-laws isName name-inner) (λ w. not (isEmpty w))) (λ w m r v t h. filled w (not-true (isEmpty w) (v .1)) (v .0) t)
 
-longer-off : (w m : List ℕ) {r : List ℕ} → Word w → isTaxiway w ≡ false → Typed (gap ∷ verbatim w) m r → headIs isName r ≡ false → readGap readTaxiway m ≡ misfit
+longer-off : (w m : List ℕ) {r : List ℕ} → Word w → isTaxiway w ≡ false → Typed (gap ∷ verbatim w) m r → headIs isName r ≡ false
+    → readGap readTaxiway m ≡ misfit
 unfolding readTaxiway
 longer-off w m {r} v n t h =
     let e = then-got (readText (32 ∷ []) m) (gap-laws word-laws (not-space isName refl) .complete w v t h) in
@@ -143,7 +150,8 @@ taxi-sayings-good = refl
 abbrev AtSaying : List ℕ → Type 0
 AtSaying m = (headIs isName m ≡ false) × (readGap readTaxiway m ≡ misfit)
 
-saying-off : (l : ℕ) → member taxiSayings l ≡ true → {m r : List ℕ} → Typed (spell (taxiSaying l)) m r → headIs isName r ≡ false → readGap readTaxiway m ≡ misfit
+saying-off : (l : ℕ) → member taxiSayings l ≡ true → {m r : List ℕ} → Typed (spell (taxiSaying l)) m r → headIs isName r ≡ false
+    → readGap readTaxiway m ≡ misfit
 unfolding spell _and_ isTaxiway
 saying-off l v {m} {r} = every-at (λ l. Typed (spell (taxiSaying l)) m r → headIs isName r ≡ false → readGap readTaxiway m ≡ misfit) taxiSayings
     (longer-off (bytes "SNOWBANK") m (refl, refl) refl, (longer-off (bytes "POOR") m (refl, refl) refl, tt)) l v
@@ -160,9 +168,11 @@ takeTaxi i = (taxiwaysOf i, i .letter)
 abbrev pub WeakTaxi : List (List ℕ) × ℕ → Type 0
 WeakTaxi p = (((length (p .0) ≤ 8) × Every Taxiway (p .0)) × (not (isEmpty (p .0)) ≡ true)) × (member taxiSayings (p .1) ≡ true)
 
-taxi-form : Laws (λ i. WeakTaxi (takeTaxi i) × (taxiItem (takeTaxi i) ≡ i)) (λ i. layAll (λ w. gap ∷ verbatim w) (taxiwaysOf i) ++ spell (taxiSaying (i .letter))) readTaxiForm (λ m. headIs isName m ≡ false) Stopped
+taxi-form : Laws (λ i. WeakTaxi (takeTaxi i) × (taxiItem (takeTaxi i) ≡ i))
+    (λ i. layAll (λ w. gap ∷ verbatim w) (taxiwaysOf i) ++ spell (taxiSaying (i .letter))) readTaxiForm (λ m. headIs isName m ≡ false) Stopped
 unfolding readTaxiForm readTaxiways
-taxi-form = made-laws (seq-laws (if-laws (many-laws (gap-laws taxiway-laws (not-space isName refl)) gap-not-name 8) (λ ws. not (isEmpty ws))) saying-laws (λ m h. h)) taxiItem takeTaxi
+taxi-form = made-laws (seq-laws (if-laws (many-laws (gap-laws taxiway-laws (not-space isName refl)) gap-not-name 8) (λ ws. not (isEmpty ws))) saying-laws
+    (λ m h. h)) taxiItem takeTaxi
     (λ p v. λ i. (taxiways-there (p .0) (v .0 .0 .1) i, p .1))
 
 -- items of fixed words

@@ -2,12 +2,12 @@
 use Prim.Native.Nat.{ℕ, zero, suc, _^_, _<_, _≤_}
 use mathlib.Core.Path.{_≡_, refl, sym, subst, _∙_, ap}
 use mathlib.Core.List.{List, [], _∷_, _++_, append-assoc}
-use mathlib.Core.Bool.{Bool, true, false, not}
+use mathlib.Core.Bool.{cond, Bool, true, false, not}
 use lib.Dec.{eqb, leb}
 use lib.ListN.{length, drop, replicate, length-map}
 use borrow.Author.Tests.{eqb-true, eqb-false, ne-eqb, leb-true, le-leb}
 use native.Mathlib.Omega.{arith}
-use Rattle.text.specs.Choice.{pick, _and_, all, isEmpty, member, headIs}
+use Rattle.text.specs.Choice.{_and_, all, isEmpty, member, headIs}
 use Rattle.text.specs.Piece.{Piece, bytes, spell}
 use Rattle.text.specs.Names.{isLetter, isName, run}
 use Rattle.text.specs.Arrays.{pad, isZero, slots, pastSlots, flat}
@@ -20,7 +20,8 @@ use Rattle.text.specs.Laws.Runs.{run-in}
 use Rattle.text.specs.Laws.Arrays.{zeros-replicate, slots-back, slots-length}
 use Rattle.runway.specs.Runway.{validRunway}
 use Rattle.items.specs.declared.Item.{Item}
-use Rattle.items.specs.Item.{letters, letterI, letterJ, letterM, letterN, letterP, letterR, onRunway, onTaxiways, nameAtFront, validSlot, runwayFits, amountFits, edgeFits, countFits, slotsFit, taxiwaysFit, nameFits, numbersFit, validItem}
+use Rattle.items.specs.Item.{letters, letterI, letterJ, letterM, letterN, letterP, letterR, onRunway, onTaxiways, nameAtFront, validSlot, runwayFits}
+use Rattle.items.specs.Item.{amountFits, edgeFits, countFits, slotsFit, taxiwaysFit, nameFits, numbersFit, validItem}
 use Rattle.items.specs.ItemText.{taxiwaysOf, isNamed, itemText, itemPieces}
 use Rattle.items.specs.ReadItem.{openings, openingName, sayings, taxiSayings, edges, bareItem, readBody, readItem}
 use Rattle.items.specs.Laws.Slots.{zero-of, name-back, slots-names, slots-pads}
@@ -28,7 +29,8 @@ use Rattle.items.specs.Laws.Forms.{Detail, Apron, Form, formPieces, form
 
 -- which opening an item has
 abbrev openingOf : Item → ℕ
-openingOf i = pick (onRunway (i .letter)) 0 (pick (eqb (i .letter) letterJ) 1 (pick (onTaxiways (i .letter)) (pick (eqb (i .count) 0) 3 2) (pick (isNamed i) 4 5)))
+openingOf i = cond (onRunway (i .letter)) 0 (cond (eqb (i .letter) letterJ) 1
+    (cond (onTaxiways (i .letter)) (cond (eqb (i .count) 0) 3 2) (cond (isNamed i) 4 5)))
 
 openings-good : all (good (λ _. false) isLetter openingName openings) openings ≡ true
 unfolding inline spell _and_
@@ -44,7 +46,7 @@ unfolding run
 named-head [] = refl
 named-head (x ∷ f) = go (isName x)
   where
-    go : (t : Bool) → leb 1 (length (pick t (x ∷ run isName f) [])) ≡ t
+    go : (t : Bool) → leb 1 (length (cond t (x ∷ run isName f) [])) ≡ t
     go true = le-leb 1 (suc (length (run isName f))) (omega arith)
     go false = refl
 
@@ -59,11 +61,15 @@ opening-is = every-at (λ k. (i : Item) → Form k i → openingOf i ≡ k) open
       λ i v.
           let c = ap (λ j. j .count) (v .1) in
           let e : eqb (i .count) 0 ≡ false = subst (λ n. eqb n 0 ≡ false) c (empty-length (taxiwaysOf i) (v .0 .0 .1)) in
-          every-at (λ l. _≡_ {A = ℕ} (pick (onRunway l) 0 (pick (eqb l letterJ) 1 (pick (onTaxiways l) (pick (eqb (i .count) 0) 3 2) (pick (isNamed i) 4 5)))) 2) taxiSayings (rw e, (rw e, tt)) (i .letter) (v .0 .1),
+          every-at (λ l. _≡_ {A = ℕ} (cond (onRunway l) 0
+          (cond (eqb l letterJ) 1 (cond (onTaxiways l) (cond (eqb (i .count) 0) 3 2) (cond (isNamed i) 4 5)))) 2) taxiSayings (rw e, (rw e, tt))
+          (i .letter) (v .0 .1),
       (
         λ i v. ap openingOf (sym (v .1)),
         (
-          λ i v. ap (λ j. pick (onRunway (j .letter)) 0 (pick (eqb (j .letter) letterJ) 1 (pick (onTaxiways (j .letter)) (pick (eqb (j .count) 0) 3 2) (pick (isNamed i) 4 5)))) (sym (v .1)) ∙ rw (sym (named-head (i .name)) ∙ and-1 _ _ (v .0 .1)),
+          λ i v. ap (λ j. cond (onRunway (j .letter)) 0
+              (cond (eqb (j .letter) letterJ) 1 (cond (onTaxiways (j .letter)) (cond (eqb (j .count) 0) 3 2) (cond (isNamed i) 4 5)))) (sym (v .1))
+              ∙ rw (sym (named-head (i .name)) ∙ and-1 _ _ (v .0 .1)),
           (λ i v. ap openingOf (sym (v .1)), tt),
         ),
       ),
@@ -89,7 +95,16 @@ valid-parts i h =
     let n₃ = and-2 _ _ n₂ in
     let n₄ = and-2 _ _ n₃ in
     let h₂ = and-2 _ _ h in
-    record { letter = and-1 _ _ n; runway = and-1 _ _ n₂; amount = and-1 _ _ n₃; edge = and-1 _ _ n₄; count = and-2 _ _ n₄; taxiways = and-1 _ _ h₂; name = and-2 _ _ h₂ }
+    record {
+      letter = and-1 _ _ n;
+      runway = and-1 _ _ n₂;
+      amount = and-1 _ _ n₃;
+      edge = and-1 _ _ n₄;
+      count = and-2 _ _ n₄;
+      taxiways = and-1 _ _ h₂;
+      name =
+          and-2 _ _ h₂;
+    }
 
 -- the array of taxiways of a valid item
 pub record Array (n : ℕ) (f : List ℕ) : Type 0 where
@@ -131,7 +146,8 @@ no-taxiways : (i : Item) → Valid i → i .count ≡ 0 → i .taxiways ≡ repl
 unfolding pastSlots
 no-taxiways i v e =
     let a = array (i .count) (i .taxiways) (v .taxiways) in
-    zeros-replicate 0 isZero zero-of (i .taxiways) (subst (λ c. all isZero (pastSlots 3 c (i .taxiways)) ≡ true) e (a .rest)) ∙ ap (λ n. replicate n 0) (a .size)
+    zeros-replicate 0 isZero zero-of (i .taxiways) (subst (λ c. all isZero (pastSlots 3 c (i .taxiways)) ≡ true) e (a .rest))
+    ∙ ap (λ n. replicate n 0) (a .size)
 
 pub name-long : (l : ℕ) (f : List ℕ) → nameFits l f ≡ true → length f ≡ 16
 unfolding nameFits
@@ -162,34 +178,48 @@ apron-named i v n =
 -- letters apart
 runway-letters : (l : ℕ) → onRunway l ≡ true → (onTaxiways l ≡ false) × (eqb l letterR ≡ false)
 unfolding onRunway onTaxiways
-runway-letters = every-at (λ l. (onTaxiways l ≡ false) × (eqb l letterR ≡ false)) sayings ((refl, refl), ((refl, refl), ((refl, refl), ((refl, refl), ((refl, refl), tt)))))
+runway-letters = every-at (λ l. (onTaxiways l ≡ false) × (eqb l letterR ≡ false)) sayings
+    ((refl, refl), ((refl, refl), ((refl, refl), ((refl, refl), ((refl, refl), tt)))))
 
 taxi-letters : (l : ℕ) → onTaxiways l ≡ true → (eqb l letterI ≡ false) × (eqb l letterM ≡ false) × (eqb l letterR ≡ false)
 unfolding onTaxiways
-taxi-letters = every-at (λ l. (eqb l letterI ≡ false) × (eqb l letterM ≡ false) × (eqb l letterR ≡ false)) taxiSayings ((refl, refl, refl), ((refl, refl, refl), tt))
+taxi-letters = every-at (λ l. (eqb l letterI ≡ false) × (eqb l letterM ≡ false) × (eqb l letterR ≡ false)) taxiSayings
+    ((refl, refl, refl), ((refl, refl, refl), tt))
 
 last-letter : (l : ℕ) → member letters l ≡ true → onRunway l ≡ false → eqb l letterJ ≡ false → onTaxiways l ≡ false → l ≡ letterR
 unfolding onRunway onTaxiways
-last-letter = every-at (λ l. onRunway l ≡ false → eqb l letterJ ≡ false → onTaxiways l ≡ false → l ≡ letterR) letters
-    ((λ a b c. true-false a), ((λ a b c. true-false b), ((λ a b c. true-false a), ((λ a b c. true-false a), ((λ a b c. true-false a), ((λ a b c. true-false c), ((λ a b c. true-false a), ((λ a b c. true-false c), ((λ a b c. refl), tt)))))))))
+last-letter = every-at (λ l. onRunway l ≡ false → eqb l letterJ ≡ false → onTaxiways l ≡ false → l ≡ letterR) letters (
+  (λ a b c. true-false a),
+  (
+    (λ a b c. true-false b),
+    (
+      (λ a b c. true-false a),
+      (
+        (λ a b c. true-false a),
+        ((λ a b c. true-false a), ((λ a b c. true-false c), ((λ a b c. true-false a), ((λ a b c. true-false c), ((λ a b c. refl), tt))))),
+      ),
+    ),
+  ),
+)
 
 -- the edge and the amount of a runway's item
-edges-all : below (λ e. pick (leb 1 e) (member edges e) true) 4 ≡ true
+edges-all : below (λ e. cond (leb 1 e) (member edges e) true) 4 ≡ true
 unfolding below _and_
 edges-all = refl
 
 detail-of : (l edge amount : ℕ) (a b : Bool) → eqb l letterI ≡ a → eqb l letterM ≡ b
-    → pick a (leb 100 amount and leb amount 9999) (pick b (leb 1 amount and leb amount 99) (eqb amount 0)) ≡ true → pick b (leb 1 edge and leb edge 3) (eqb edge 0) ≡ true → Detail a b (edge, amount)
+    → cond a (leb 100 amount and leb amount 9999) (cond b (leb 1 amount and leb amount 99) (eqb amount 0)) ≡ true
+    → cond b (leb 1 edge and leb edge 3) (eqb edge 0) ≡ true → Detail a b (edge, amount)
 detail-of l edge amount true true p q h k = let x = eqb-true l letterI p in let y = eqb-true l letterM q in absurd (omega arith)
 detail-of l edge amount true false p q h k = let x = leb-true amount 9999 (and-2 _ _ h) in let z = eqb-true edge 0 k in (omega arith, λ i. (sym z i, amount))
 detail-of l edge amount false true p q h k =
     let x = leb-true amount 99 (and-2 _ _ h) in
     let y = leb-true edge 3 (and-2 _ _ k) in
-    let z = below-at (λ e. pick (leb 1 e) (member edges e) true) 4 edges-all edge (omega arith) in
+    let z = below-at (λ e. cond (leb 1 e) (member edges e) true) 4 edges-all edge (omega arith) in
     (rw (and-1 _ _ k) at z, omega arith)
 detail-of l edge amount false false p q h k = let x = eqb-true amount 0 h in let z = eqb-true edge 0 k in (tt, λ i. (sym z i, sym x i))
 
-number-low : (n : ℕ) (b : Bool) → leb n (pick b 36 18) ≡ true → n < 10 ^ 2
+number-low : (n : ℕ) (b : Bool) → leb n (cond b 36 18) ≡ true → n < 10 ^ 2
 number-low n true h = let k = leb-true n 36 h in omega arith
 number-low n false h = let k = leb-true n 18 h in omega arith
 
@@ -203,7 +233,8 @@ Opened i = (member openings (openingOf i) ≡ true) × Form (openingOf i) i
 opened : (i : Item) (k : ℕ) → openingOf i ≡ k → (member openings k ≡ true) × Form k i → Opened i
 opened i k e v = subst (λ n. (member openings n ≡ true) × Form n i) (sym e) v
 
-bare-is : (i : Item) (l : ℕ) → Valid i → i .letter ≡ l → onRunway (i .letter) ≡ false → eqb (i .letter) letterI ≡ false → eqb (i .letter) letterM ≡ false → i .count ≡ 0 → i .name ≡ replicate 16 0 → bareItem l ≡ i
+bare-is : (i : Item) (l : ℕ) → Valid i → i .letter ≡ l → onRunway (i .letter) ≡ false → eqb (i .letter) letterI ≡ false → eqb (i .letter) letterM ≡ false
+    → i .count ≡ 0 → i .name ≡ replicate 16 0 → bareItem l ≡ i
 bare-is i l v e r a b c w =
     let x = no-runway i v r in
     let y = no-amount i v a b in
@@ -213,9 +244,10 @@ bare-is i l v e r a b c w =
 -- of P with no taxiways
 not-N : (i : Item) → Valid i → onTaxiways (i .letter) ≡ true → i .count ≡ 0 → i .letter ≡ letterP
 unfolding countFits onTaxiways
-not-N i v r c = every-at (λ l. pick (eqb l letterN) (leb 1 0) true ≡ true → l ≡ letterP) taxiSayings ((λ h. true-false (sym h)), ((λ h. refl), tt)) (i .letter) r (go (eqb (i .letter) letterN) refl (rw c at (v .count)))
+not-N i v r c = every-at (λ l. cond (eqb l letterN) (leb 1 0) true ≡ true → l ≡ letterP) taxiSayings ((λ h. true-false (sym h)), ((λ h. refl), tt))
+    (i .letter) r (go (eqb (i .letter) letterN) refl (rw c at (v .count)))
   where
-    go : (t : Bool) → eqb (i .letter) letterN ≡ t → pick t (leb 1 0) (pick (eqb (i .letter) letterP) true (eqb 0 0)) ≡ true → pick t (leb 1 0) true ≡ true
+    go : (t : Bool) → eqb (i .letter) letterN ≡ t → cond t (leb 1 0) (cond (eqb (i .letter) letterP) true (eqb 0 0)) ≡ true → cond t (leb 1 0) true ≡ true
     go true e h = h
     go false e h = refl
 
@@ -223,7 +255,8 @@ valid-opened : (i : Item) → Valid i → Opened i
 unfolding runwayFits amountFits edgeFits validRunway
 valid-opened i v = go (onRunway (i .letter)) refl (eqb (i .letter) letterJ) refl (onTaxiways (i .letter)) refl (eqb (i .count) 0) refl (isNamed i) refl
   where
-    go : (a : Bool) → onRunway (i .letter) ≡ a → (b : Bool) → eqb (i .letter) letterJ ≡ b → (c : Bool) → onTaxiways (i .letter) ≡ c → (d : Bool) → eqb (i .count) 0 ≡ d → (e : Bool) → isNamed i ≡ e → Opened i
+    go : (a : Bool) → onRunway (i .letter) ≡ a → (b : Bool) → eqb (i .letter) letterJ ≡ b → (c : Bool) → onTaxiways (i .letter) ≡ c → (d : Bool)
+        → eqb (i .count) 0 ≡ d → (e : Bool) → isNamed i ≡ e → Opened i
     go true p b q c r d s e t =
         let h = rw p at (v .runway) in
         let k = runway-letters (i .letter) p in
@@ -235,15 +268,35 @@ valid-opened i v = go (onRunway (i .letter)) refl (eqb (i .letter) letterJ) refl
           (
             (
               (number-low (i .number) (eqb (i .letter) letterI) (and-1 _ _ (and-2 _ _ h)), leb-true (i .side) 3 (and-2 _ _ (and-2 _ _ h))),
-              (unfold onRunway in p, detail-of (i .letter) (i .edge) (i .amount) (eqb (i .letter) letterI) (eqb (i .letter) letterM) refl refl (v .amount) (v .edge)),
+              (
+                unfold onRunway in p,
+                detail-of (i .letter) (i .edge) (i .amount) (eqb (i .letter) letterI) (eqb (i .letter) letterM) refl refl (v .amount)
+                    (v .edge),
+              ),
             ),
-            λ j. record { letter = i .letter; number = i .number; side = i .side; amount = i .amount; edge = i .edge; count = sym n j; taxiways = sym z j; name = sym w j },
+            λ j. record {
+              letter = i .letter;
+              number = i .number;
+              side = i .side;
+              amount = i .amount;
+              edge = i .edge;
+              count = sym n j;
+              taxiways = sym z j;
+              name = sym w j;
+            },
           ),
         )
     go false p true q c r d s e t =
         let l = eqb-true (i .letter) letterJ q in
         let n = no-count i v (ap onTaxiways l ∙ unfold onTaxiways in refl) in
-        opened i 1 (rw (p, q)) (refl, (tt, bare-is i letterJ v l p (ap (λ x. eqb x letterI) l) (ap (λ x. eqb x letterM) l) n (no-name i v (ap (λ x. eqb x letterR) l))))
+        opened i 1 (rw (p, q)) (
+          refl,
+          (
+            tt,
+            bare-is i letterJ v l p (ap (λ x. eqb x letterI) l) (ap (λ x. eqb x letterM) l) n
+                (no-name i v (ap (λ x. eqb x letterR) l)),
+          ),
+        )
     go false p false q true r true s e t =
         let k = taxi-letters (i .letter) r in
         let c = eqb-true (i .count) 0 s in
@@ -261,12 +314,28 @@ valid-opened i v = go (onRunway (i .letter)) refl (eqb (i .letter) letterJ) refl
           refl,
           (
             (((subst (λ c. c ≤ 8) (sym len) (a .most), slots-names ss (a .slots)), length-filled (taxiwaysOf i) (i .count) len s), unfold onTaxiways in r),
-            λ j. record { letter = i .letter; number = sym (x .0) j; side = sym (x .1) j; amount = sym (y .0) j; edge = sym (y .1) j; count = len j; taxiways = f j; name = sym w j },
+            λ j. record {
+              letter = i .letter;
+              number = sym (x .0) j;
+              side = sym (x .1) j;
+              amount = sym (y .0) j;
+              edge = sym (y .1) j;
+              count = len j;
+              taxiways = f j;
+              name = sym w j;
+            },
           ),
         )
     go false p false q false r d s false t =
         let l = last-letter (i .letter) (v .letter) p q r in
-        opened i 5 (rw (p, q, r, t)) (refl, (tt, bare-is i letterR v l p (ap (λ x. eqb x letterI) l) (ap (λ x. eqb x letterM) l) (no-count i v r) (all-aprons i v l t)))
+        opened i 5 (rw (p, q, r, t)) (
+          refl,
+          (
+            tt,
+            bare-is i letterR v l p (ap (λ x. eqb x letterI) l) (ap (λ x. eqb x letterM) l) (no-count i v r)
+                (all-aprons i v l t),
+          ),
+        )
     go false p false q false r d s true t =
         let l = last-letter (i .letter) (v .letter) p q r in
         let x = no-runway i v p in
@@ -278,7 +347,16 @@ valid-opened i v = go (onRunway (i .letter)) refl (eqb (i .letter) letterJ) refl
           refl,
           (
             apron-named i v t,
-            λ j. record { letter = sym l j; number = sym (x .0) j; side = sym (x .1) j; amount = sym (y .0) j; edge = sym (y .1) j; count = sym n j; taxiways = sym z j; name = w j },
+            λ j. record {
+              letter = sym l j;
+              number = sym (x .0) j;
+              side = sym (x .1) j;
+              amount = sym (y .0) j;
+              edge = sym (y .1) j;
+              count = sym n j;
+              taxiways = sym z j;
+              name = w j;
+            },
           ),
         )
 
@@ -293,9 +371,11 @@ text-is i v = go (onRunway (i .letter)) refl (eqb (i .letter) letterJ) refl (onT
     with′ : (k : ℕ) → openingOf i ≡ k → formText k i ≡ itemText i → formText (openingOf i) i ≡ itemText i
     with′ k e h = ap (λ n. formText n i) e ∙ h
 
-    go : (a : Bool) → onRunway (i .letter) ≡ a → (b : Bool) → eqb (i .letter) letterJ ≡ b → (c : Bool) → onTaxiways (i .letter) ≡ c → (d : Bool) → eqb (i .count) 0 ≡ d → (e : Bool) → isNamed i ≡ e → formText (openingOf i) i ≡ itemText i
+    go : (a : Bool) → onRunway (i .letter) ≡ a → (b : Bool) → eqb (i .letter) letterJ ≡ b → (c : Bool) → onTaxiways (i .letter) ≡ c → (d : Bool)
+        → eqb (i .count) 0 ≡ d → (e : Bool) → isNamed i ≡ e → formText (openingOf i) i ≡ itemText i
     go true p b q c r d s e t = with′ 0 (rw p) (every-at (λ l. i .letter ≡ l → formText 0 i ≡ itemText i) sayings
-        ((λ x. rw x (simp append-assoc)), ((λ x. rw x), ((λ x. rw x), ((λ x. rw x (simp append-assoc)), ((λ x. rw x), tt))))) (i .letter) (unfold onRunway in p) refl)
+        ((λ x. rw x (simp append-assoc)), ((λ x. rw x), ((λ x. rw x), ((λ x. rw x (simp append-assoc)), ((λ x. rw x), tt))))) (i .letter)
+        (unfold onRunway in p) refl)
     go false p true q c r d s e t = let l = eqb-true (i .letter) letterJ q in with′ 1 (rw (p, q)) (rw l)
     go false p false q true r true s e t = let l = not-N i v r (eqb-true (i .count) 0 s) in with′ 3 (rw (p, q, r, s)) (rw (l, s))
     go false p false q true r false s e t = with′ 2 (rw (p, q, r, s)) (every-at (λ l. i .letter ≡ l → formText 2 i ≡ itemText i) taxiSayings

@@ -34,7 +34,9 @@ pub language-laws : Laws (λ l. validLanguage l ≡ true) verbatim wholeLanguage
 unfolding validLanguage wholeLanguage
 language-laws = record {
   sound = λ {a} {m} e. let g = guard-got (validLanguage m) e in carry (λ l r. (validLanguage l ≡ true) × Typed (verbatim l) m r) (g .1) (g .0, own m);
-  complete = λ l {m} {r} v t h. let q : m ≡ l = own-is l t ∙ (ap (λ k. l ++ k) h ∙ append-nil l) in subst (λ k. guard (validLanguage k) (got k []) ≡ got l r) (sym q) (subst (λ b. guard b (got l []) ≡ got l r) (sym v) (ap (got l) (sym h)));
+  complete = λ l {m} {r} v t h. let q : m ≡ l = own-is l t
+      ∙ (ap (λ k. l ++ k) h ∙ append-nil l) in subst (λ k. guard (validLanguage k) (got k []) ≡ got l r) (sym q)
+      (subst (λ b. guard b (got l []) ≡ got l r) (sym v) (ap (got l) (sym h)));
   starts = λ l v t h. tt;
   within = λ l v. verbatim-inline isPlainByte plain-inner l (and-1 _ _ (and-2 _ _ (and-2 _ _ v)));
 }

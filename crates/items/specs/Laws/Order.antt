@@ -31,7 +31,8 @@ module _ (i : Item) where
   order-off [] ys s = true-false s
   order-off (a ∷ xs) ys s = go (mayFollow a i) refl s (λ h. order-off xs ys h)
     where
-      go : (t : Bool) → mayFollow a i ≡ t → (t and standsBehind xs i) ≡ false → (standsBehind xs i ≡ false → inOrder (xs ++ (i ∷ ys)) ≡ false) → inOrder (a ∷ (xs ++ (i ∷ ys))) ≡ false
+      go : (t : Bool) → mayFollow a i ≡ t → (t and standsBehind xs i) ≡ false → (standsBehind xs i ≡ false → inOrder (xs ++ (i ∷ ys)) ≡ false)
+          → inOrder (a ∷ (xs ++ (i ∷ ys))) ≡ false
       go true e h ih = and-none (all (mayFollow a) (xs ++ (i ∷ ys))) (ih h)
       go false e h ih = rw (one-fails (mayFollow a) xs ys i e)
 

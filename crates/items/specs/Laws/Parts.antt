@@ -36,7 +36,8 @@ module _ (is : List Item) (v : validItems is ≡ true) where
   items-held =
       let f = few-items is v in
       let a = array-there blankItem isBlankItem blank-item blank-item-blank mostItems is f in
-      and-i (le-leb (length is) mostItems f) (and-i (eq-eqb (length (pad mostItems blankItem is)) mostItems (a .0)) (and-i (subst (λ l. validItems l ≡ true) (sym (a .1)) v) (a .2)))
+      and-i (le-leb (length is) mostItems f) (and-i (eq-eqb (length (pad mostItems blankItem is)) mostItems (a .0))
+      (and-i (subst (λ l. validItems l ≡ true) (sym (a .1)) v) (a .2)))
 
 module _ (x : Items) (valid : holdsItems x ≡ true) where
   pub items-valid : validItems (itemsOf x) ≡ true
@@ -69,7 +70,8 @@ module _ (l : List ℕ) (v : noneOrLanguage l ≡ true) where
   language-held =
       let f = short-language l v in
       let a = array-there 0 isZero zero-of refl mostLanguage l f in
-      and-i (le-leb (length l) mostLanguage f) (and-i (eq-eqb (length (pad mostLanguage 0 l)) mostLanguage (a .0)) (and-i (subst (λ k. noneOrLanguage k ≡ true) (sym (a .1)) v) (a .2)))
+      and-i (le-leb (length l) mostLanguage f) (and-i (eq-eqb (length (pad mostLanguage 0 l)) mostLanguage (a .0))
+      (and-i (subst (λ k. noneOrLanguage k ≡ true) (sym (a .1)) v) (a .2)))
 
 module _ (x : Language) (valid : holdsLanguage x ≡ true) where
   pub language-valid : noneOrLanguage (languageOf x) ≡ true

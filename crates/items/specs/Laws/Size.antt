@@ -15,7 +15,8 @@ use Rattle.text.specs.Arrays.{slots}
 use Rattle.text.specs.Laws.Base.{and-1, and-2}
 use Rattle.text.specs.Laws.Many.{Every, all-every}
 use Rattle.text.specs.Laws.Arrays.{slots-length}
-use Rattle.text.specs.Laws.Sizes.{size, cons-size, no-size, append-size, digits-size, number-size, spell-size, verbatim-size, all-size, name-size, run-size, pick-size}
+use Rattle.text.specs.Laws.Sizes.{size, cons-size, no-size, append-size, digits-size, number-size, spell-size, verbatim-size, all-size, name-size, run-size}
+use Rattle.text.specs.Laws.Sizes.{cond-size}
 use Rattle.runway.specs.Runway.{runwayPieces}
 use Rattle.runway.specs.Laws.Runway.{runway-size}
 use Rattle.items.specs.declared.Item.{Item}
@@ -38,7 +39,8 @@ slots-size (s ∷ ss) h =
 
 -- `RWY rr` and what is said
 runway-said : (i : Item) (said : List ℕ) → size (ofRunway i said) ≤ 7 + length said
-runway-said i said = let r = runway-size (i .number) (i .side) in rw (append-size (words "RWY ") _, append-size (runwayPieces (i .number) (i .side)) _, spell-size, spell-size) (omega arith)
+runway-said i said = let r = runway-size (i .number) (i .side) in
+    rw (append-size (words "RWY ") _, append-size (runwayPieces (i .number) (i .side)) _, spell-size, spell-size) (omega arith)
 
 module _ (i : Item) (h : validItem i ≡ true) where
   taxiways-said : (said : List ℕ) → size (ofTaxiways i said) ≤ 35 + length said
@@ -57,15 +59,30 @@ module _ (i : Item) (h : validItem i ≡ true) where
       let a = number-size 3 (i .amount) in
       let k = run-size isName (i .name) in
       let l = name-long (i .letter) (i .name) (valid-parts i h .name) in
-      pick-size 45 (eqb (i .letter) letterI) _ _ (let s = runway-said i (bytes " REDUCED TO ") in rw append-size (omega arith))
-      (pick-size 45 (eqb (i .letter) letterJ) _ _ (rw spell-size (lit≤ tt))
-      (pick-size 45 (eqb (i .letter) letterK) _ _ (let s = runway-said i (bytes " LOOSE SAND") in omega arith)
-      (pick-size 45 (eqb (i .letter) letterL) _ _ (let s = runway-said i (bytes " CHEMICALLY TREATED") in omega arith)
-      (pick-size 45 (eqb (i .letter) letterM) _ _ (let s = runway-said i (bytes " SNOWBANK ") in rw (append-size (ofRunway i (bytes " SNOWBANK ")) _, append-size (spell (edgeName (i .edge))) _, append-size (digits 2 (i .amount)) _, digits-size, spell-size (edgeName (i .edge)), spell-size (bytes " FM CL")) (omega arith))
-      (pick-size 45 (eqb (i .letter) letterN) _ _ (let s = taxiways-said (bytes " SNOWBANK") in omega arith)
-      (pick-size 45 (eqb (i .letter) letterO) _ _ (let s = runway-said i (bytes " ADJ SNOWBANK") in omega arith)
-      (pick-size 45 (eqb (i .letter) letterP) _ _ (pick-size 45 (eqb (i .count) 0) _ _ (rw spell-size (lit≤ tt)) (let s = taxiways-said (bytes " POOR") in omega arith))
-      (pick-size 45 (isNamed i) _ _ (rw (append-size (words "APRON ") _, append-size (verbatim (nameAtFront (i .name))) _, spell-size, spell-size, verbatim-size) (omega arith)) (rw spell-size (lit≤ tt))))))))))
+      cond-size 45 (eqb (i .letter) letterI) _ _ (let s = runway-said i (bytes " REDUCED TO ") in rw append-size (omega arith))
+      (cond-size 45 (eqb (i .letter) letterJ) _ _ (rw spell-size (lit≤ tt))
+      (cond-size 45 (eqb (i .letter) letterK) _ _ (let s = runway-said i (bytes " LOOSE SAND") in omega arith)
+      (cond-size 45 (eqb (i .letter) letterL) _ _ (let s = runway-said i (bytes " CHEMICALLY TREATED") in omega arith)
+      (cond-size 45 (eqb (i .letter) letterM) _ _ (let s = runway-said i (bytes " SNOWBANK ") in
+      rw (
+        append-size (ofRunway i (bytes " SNOWBANK ")) _,
+        append-size (spell (edgeName (i .edge))) _,
+        append-size (digits 2 (i .amount)) _,
+        digits-size,
+        spell-size (edgeName (i .edge)),
+        spell-size (bytes " FM CL"),
+      ) (omega arith))
+      (cond-size 45 (eqb (i .letter) letterN) _ _ (let s = taxiways-said (bytes " SNOWBANK") in omega arith)
+      (cond-size 45 (eqb (i .letter) letterO) _ _ (let s = runway-said i (bytes " ADJ SNOWBANK") in omega arith)
+      (cond-size 45 (eqb (i .letter) letterP) _ _ (cond-size 45 (eqb (i .count) 0) _ _ (rw spell-size (lit≤ tt))
+      (let s = taxiways-said (bytes " POOR") in omega arith))
+      (cond-size 45 (isNamed i) _ _ (rw (
+        append-size (words "APRON ") _,
+        append-size (verbatim (nameAtFront (i .name))) _,
+        spell-size,
+        spell-size,
+        verbatim-size,
+      ) (omega arith)) (rw spell-size (lit≤ tt))))))))))
 
   item-size : size (itemPieces i) ≤ 46
   unfolding itemPieces
@@ -80,5 +97,6 @@ awareness-size [] h = rw no-size (lit≤ tt)
 awareness-size (i ∷ is) h =
     let n = leb-true (suc (length is)) 32 (and-1 _ _ h) in
     let a = item-size i (and-1 _ _ (and-1 _ _ (and-2 _ _ h))) in
-    let b = all-size (λ j. loose ∷ itemPieces j) 47 is (all-every (λ j. size (loose ∷ itemPieces j) ≤ 47) validItem loose-size is (and-2 _ _ (and-1 _ _ (and-2 _ _ h)))) in
+    let b = all-size (λ j. loose ∷ itemPieces j) 47 is
+    (all-every (λ j. size (loose ∷ itemPieces j) ≤ 47) validItem loose-size is (and-2 _ _ (and-1 _ _ (and-2 _ _ h)))) in
     rw append-size (omega arith)

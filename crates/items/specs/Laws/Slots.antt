@@ -47,8 +47,10 @@ slot-good : (s : List ℕ) → validSlot s ≡ true → (isTaxiway (nameAtFront 
 unfolding validSlot isTaxiway
 slot-good s h =
     let l = eqb-true (length s) 3 (and-1 _ _ h) in
-    let k = run-size isName s in
-    (and-i (head-name isLetter letter-name s (and-1 _ _ (and-2 _ _ h))) (and-i (run-in isName s) (le-leb (length (nameAtFront s)) 3 (omega arith))), name-back 3 s l (and-2 _ _ (and-2 _ _ h)))
+    let k = run-size isName s in (
+      and-i (head-name isLetter letter-name s (and-1 _ _ (and-2 _ _ h))) (and-i (run-in isName s) (le-leb (length (nameAtFront s)) 3 (omega arith))),
+      name-back 3 s l (and-2 _ _ (and-2 _ _ h)),
+    )
 
 abbrev pub Taxiway : List ℕ → Type 0
 Taxiway w = (all isName w ≡ true) × (isTaxiway w ≡ true)

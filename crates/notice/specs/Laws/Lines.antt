@@ -2,10 +2,10 @@
 use Prim.Native.Nat.{ℕ}
 use mathlib.Core.Path.{_≡_, refl, sym, subst, _∙_, ap}
 use mathlib.Core.List.{List, [], _∷_, _++_, map}
-use mathlib.Core.Bool.{Bool, true, false}
+use mathlib.Core.Bool.{cond, Bool, true, false}
 use lib.Dec.{eqb, lit<, lit≤}
 use borrow.Author.Tests.{eqb-true, eq-eqb}
-use Rattle.text.specs.Choice.{pick, _and_, all, isEmpty, sameBytes}
+use Rattle.text.specs.Choice.{_and_, all, isEmpty, sameBytes}
 use Rattle.text.specs.Piece.{Piece, Typed, Typing}
 use Rattle.text.specs.Read.{Got, got, whole}
 use Rattle.text.specs.Laws.Base.{true-false, inline, and-1, and-2, and-i}
@@ -39,7 +39,7 @@ use Rattle.record.specs.Answer.{mismatch}
 use Rattle.notice.specs.Reading.{agreeing, readNotice}
 use Rattle.notice.specs.Laws.Parts.{Parts, made, partLines, Good, title-valid}
 
--- inversion of a readLine, and of the agreement at the end
+-- inversion of a line, and of the agreement at the end
 record Line {A B : Type 0} (f : List ℕ → Got A) (ls : List (List ℕ)) (k : A → List (List ℕ) → Out B) (b : B) : Type 0 where
   first : List ℕ
   others : List (List ℕ)
@@ -49,9 +49,11 @@ record Line {A B : Type 0} (f : List ℕ → Got A) (ls : List (List ℕ)) (k : 
   reads : whole (f first) ≡ got val rest
   goes : k val others ≡ taken b
 
-line-took : {A B : Type 0} (n : ℕ) (f : List ℕ → Got A) (ls : List (List ℕ)) {k : A → List (List ℕ) → Out B} {b : B} → readLine n f ls k ≡ taken b → Line f ls k b
+line-took : {A B : Type 0} (n : ℕ) (f : List ℕ → Got A) (ls : List (List ℕ)) {k : A → List (List ℕ) → Out B} {b : B} → readLine n f ls k ≡ taken b
+    → Line f ls k b
 line-took n f [] e = no-refuse e
-line-took n f (l ∷ ls) e = let x = fit-took n (whole (f l)) e in record { first = l; others = ls; is = refl; val = x .val; rest = x .rest; reads = x .one; goes = x .two }
+line-took n f (l ∷ ls) e = let x = fit-took n (whole (f l)) e in
+    record { first = l; others = ls; is = refl; val = x .val; rest = x .rest; reads = x .one; goes = x .two }
 
 record Agreed (h : Heading) (serial : ℕ) (aerodrome : List ℕ) (rows : List Row) (r s : Record) : Type 0 where
   serials : h .title .serial ≡ serial
@@ -59,13 +61,23 @@ record Agreed (h : Heading) (serial : ℕ) (aerodrome : List ℕ) (rows : List R
   times : h .time ≡ latest rows
   same : taken r ≡ taken s
 
-agree-took : (h : Heading) (serial : ℕ) (aerodrome : List ℕ) (rows : List Row) (r : Record) {s : Record} → agreeing h serial aerodrome rows r ≡ taken s → Agreed h serial aerodrome rows r s
+agree-took : (h : Heading) (serial : ℕ) (aerodrome : List ℕ) (rows : List Row) (r : Record) {s : Record} → agreeing h serial aerodrome rows r ≡ taken s
+    → Agreed h serial aerodrome rows r s
 unfolding agreeing mismatch
-agree-took h serial aerodrome rows r {s} e = go (eqb (h .title .serial) serial) refl (sameBytes (h .title .aerodrome) aerodrome) refl (eqb (h .time) (latest rows)) refl e
+agree-took h serial aerodrome rows r {s} e = go (eqb (h .title .serial) serial) refl (sameBytes (h .title .aerodrome) aerodrome) refl
+    (eqb (h .time) (latest rows)) refl e
   where
-    go : (a : Bool) → eqb (h .title .serial) serial ≡ a → (b : Bool) → sameBytes (h .title .aerodrome) aerodrome ≡ b → (c : Bool) → eqb (h .time) (latest rows) ≡ c
-        → pick (eqb (pick a (pick b (pick c 0 12) 11) 10) 0) (taken r) (refuse (pick a (pick b (pick c 0 12) 11) 10)) ≡ taken s → Agreed h serial aerodrome rows r s
-    go true p true q true t f = record { serials = eqb-true (h .title .serial) serial p; aerodromes = same-true (h .title .aerodrome) aerodrome q; times = eqb-true (h .time) (latest rows) t; same = f }
+    go : (a : Bool) → eqb (h .title .serial) serial ≡ a → (b : Bool) → sameBytes (h .title .aerodrome) aerodrome ≡ b → (c : Bool)
+        → eqb (h .time) (latest rows) ≡ c
+        → cond (eqb (cond a (cond b (cond c 0 12) 11) 10) 0) (taken r) (refuse (cond a (cond b (cond c 0 12) 11) 10)) ≡ taken s
+        → Agreed h serial aerodrome rows r s
+    go true p true q true t f = record {
+      serials = eqb-true (h .title .serial) serial p;
+      aerodromes = same-true (h .title .aerodrome) aerodrome q;
+      times =
+          eqb-true (h .time) (latest rows) t;
+      same = f;
+    }
     go true p true q false t f = no-refuse f
     go true p false q c t f = no-refuse f
     go false p b q c t f = no-refuse f
@@ -105,12 +117,14 @@ notice-sound ls {r} e =
         language = rm .language;
         time = a .times ∙ ap latest (rs .is);
       };
-      tells = subst (Tells _) (sym (l₁ .is ∙ ap (λ k. l₁ .first ∷ k) (l₂ .is ∙ ap (λ k. l₂ .first ∷ k) (l₃ .is ∙ ap (λ k. l₃ .first ∷ k) (l₄ .is ∙ ap (λ k. l₄ .first ∷ k) (l₅ .is))))))
+      tells = subst (Tells _) (sym (l₁ .is ∙ ap (λ k. l₁ .first ∷ k)
+          (l₂ .is ∙ ap (λ k. l₂ .first ∷ k) (l₃ .is ∙ ap (λ k. l₃ .first ∷ k) (l₄ .is ∙ ap (λ k. l₄ .first ∷ k) (l₅ .is))))))
           (and-next (w₁ .1) (and-next (w₂ .1) (and-next (w₃ .1)
           (and-next (subst (λ s. Typed (serialPieces s) (l₄ .first) []) (sym (a .serials)) (w₄ .1))
           (and-next (subst (λ s. Typed (aerodromePieces s) (l₅ .first) []) (sym (a .aerodromes)) (w₅ .1))
           (rs .tells (remarkLines (n₂ .val .items) (n₂ .val .language)) (rm .follows)))))));
-      is = ap (λ k. makeRecord (l₁ .val) (l₂ .val) (l₃ .val .title) k (n₂ .val)) (sym (rs .is)) ∙ took (λ s. makeRecord (l₁ .val) (l₂ .val) (l₃ .val .title) (n₁ .val .rows) (n₂ .val) ≡ s) (a .same) refl;
+      is = ap (λ k. makeRecord (l₁ .val) (l₂ .val) (l₃ .val .title) k (n₂ .val)) (sym (rs .is))
+          ∙ took (λ s. makeRecord (l₁ .val) (l₂ .val) (l₃ .val .title) (n₁ .val .rows) (n₂ .val) ≡ s) (a .same) refl;
     }
 
 -- the other way
@@ -151,17 +165,30 @@ notice-complete p {ls} g t =
     let w₃ = whole-complete heading-laws (p .heading) (g .heading) (l₃ .typed) in
     let w₄ = whole-complete serial-line-laws (p .heading .title .serial) (serial-of (p .heading) v) (l₄ .typed) in
     let w₅ = whole-complete aerodrome-laws (p .heading .title .aerodrome) (and-2 _ _ (and-2 _ _ v)) (l₅ .typed) in
-    let b = rows-complete mostRows [] (p .rows) (remarks-tail (p .remarks .items) (p .remarks .language)) (g .rows .valid) (g .rows .other) (g .rows .few) (λ _. g .rows .some) (l₅ .tells) in
+    let b = rows-complete mostRows [] (p .rows) (remarks-tail (p .remarks .items) (p .remarks .language)) (g .rows .valid) (g .rows .other) (g .rows .few)
+    (λ _. g .rows .some) (l₅ .tells) in
     let m = remarks-complete (b .after) (p .remarks .items) (p .remarks .language) (g .items) (g .language) (b .follows) in
-    let is = l₁ .is ∙ ap (λ k. l₁ .first ∷ k) (l₂ .is ∙ ap (λ k. l₂ .first ∷ k) (l₃ .is ∙ ap (λ k. l₃ .first ∷ k) (l₄ .is ∙ ap (λ k. l₄ .first ∷ k) (l₅ .is)))) in
-    ap readNotice is ∙ rw (w₁, w₂, w₃, w₄, w₅, b .reads, m, eq-eqb (p .heading .title .serial) (p .heading .title .serial) refl, same-refl (p .heading .title .aerodrome), eq-eqb (p .heading .time) (latest (p .rows)) (g .time))
+    let is = l₁ .is ∙ ap (λ k. l₁ .first ∷ k) (l₂ .is
+    ∙ ap (λ k. l₂ .first ∷ k) (l₃ .is ∙ ap (λ k. l₃ .first ∷ k) (l₄ .is ∙ ap (λ k. l₄ .first ∷ k) (l₅ .is)))) in
+    ap readNotice is ∙ rw (
+      w₁,
+      w₂,
+      w₃,
+      w₄,
+      w₅,
+      b .reads,
+      m,
+      eq-eqb (p .heading .title .serial) (p .heading .title .serial) refl,
+      same-refl (p .heading .title .aerodrome),
+      eq-eqb (p .heading .time) (latest (p .rows)) (g .time),
+    )
 
 -- every refusal has a number from 1 to 12
 agree-numbered : (h : Heading) (serial : ℕ) (aerodrome : List ℕ) (rows : List Row) (r : Record) → Numbered (agreeing h serial aerodrome rows r)
 unfolding agreeing mismatch
 agree-numbered h serial aerodrome rows r = go (eqb (h .title .serial) serial) (sameBytes (h .title .aerodrome) aerodrome) (eqb (h .time) (latest rows))
   where
-    go : (a b c : Bool) → Numbered (pick (eqb (pick a (pick b (pick c 0 12) 11) 10) 0) (taken r) (refuse (pick a (pick b (pick c 0 12) 11) 10)))
+    go : (a b c : Bool) → Numbered (cond (eqb (cond a (cond b (cond c 0 12) 11) 10) 0) (taken r) (refuse (cond a (cond b (cond c 0 12) 11) 10)))
     go true true true = tt
     go true true false = (lit< tt, lit≤ tt)
     go true false c = (lit< tt, lit≤ tt)
@@ -170,11 +197,13 @@ agree-numbered h serial aerodrome rows r = go (eqb (h .title .serial) serial) (s
 pub notice-numbered : (ls : List (List ℕ)) → Numbered (readNotice ls)
 unfolding readNotice
 notice-numbered ls₁ =
-    line-numbered readAddresses ls₁ _ (lit< tt, lit≤ tt) (λ a ls₂. line-numbered readFiling ls₂ _ (lit< tt, lit≤ tt) (λ f ls₃. line-numbered readHeading ls₃ _ (lit< tt, lit≤ tt) (λ h ls₄.
+    line-numbered readAddresses ls₁ _ (lit< tt, lit≤ tt)
+    (λ a ls₂. line-numbered readFiling ls₂ _ (lit< tt, lit≤ tt) (λ f ls₃. line-numbered readHeading ls₃ _ (lit< tt, lit≤ tt) (λ h ls₄.
     line-numbered readSerialLine ls₄ _ (lit< tt, lit≤ tt) (λ s ls₅. line-numbered readAerodrome ls₅ _ (lit< tt, lit≤ tt) (λ p ls₆.
-    next-numbered (readRows mostRows [] ls₆) _ (rows-numbered mostRows [] ls₆) (λ b. next-numbered (readRemarks (b .after)) _ (remarks-numbered (b .after)) (λ x. agree-numbered h s p (b .rows) _)))))))
+    next-numbered (readRows mostRows [] ls₆) _ (rows-numbered mostRows [] ls₆)
+    (λ b. next-numbered (readRemarks (b .after)) _ (remarks-numbered (b .after)) (λ x. agree-numbered h s p (b .rows) _)))))))
 
--- every readLine of a notice stands within its readLine
+-- every line of a notice stands within its line
 rows-inline : (rs : List Row) → all validRow rs ≡ true → all inline (map rowPieces rs) ≡ true
 rows-inline [] h = refl
 rows-inline (r ∷ rs) h = and-i (row-laws .within r (and-1 _ _ h)) (rows-inline rs (and-2 _ _ h))
@@ -188,7 +217,7 @@ remarks-inline : (is : List Item) (p : List ℕ) → validItems is ≡ true → 
 unfolding inline
 remarks-inline is p v w = go (isEmpty is and isEmpty p)
   where
-    go : (b : Bool) → all inline (pick b [] ([] ∷ awarenessPieces is ∷ languageLines p)) ≡ true
+    go : (b : Bool) → all inline (cond b [] ([] ∷ awarenessPieces is ∷ languageLines p)) ≡ true
     go true = refl
     go false = and-i refl (and-i (awareness-laws .within is v) (language-inline p w))
 
@@ -196,6 +225,9 @@ pub lines-inline : (p : Parts) → Good p → all inline (partLines p) ≡ true
 unfolding validTitle
 lines-inline p g =
     let v = title-valid (p .heading) (g .heading) in
-    and-i (addresses-laws .within (p .addresses) (g .addresses)) (and-i (filing-laws .within (p .filing) (g .filing)) (and-i (heading-laws .within (p .heading) (g .heading))
-    (and-i (serial-line-laws .within (p .heading .title .serial) (serial-of (p .heading) v)) (and-i (aerodrome-laws .within (p .heading .title .aerodrome) (and-2 _ _ (and-2 _ _ v)))
-    (all-append inline (map rowPieces (p .rows)) (remarkLines (p .remarks .items) (p .remarks .language)) (rows-inline (p .rows) (g .rows .valid)) (remarks-inline (p .remarks .items) (p .remarks .language) (g .items) (g .language)))))))
+    and-i (addresses-laws .within (p .addresses) (g .addresses))
+    (and-i (filing-laws .within (p .filing) (g .filing)) (and-i (heading-laws .within (p .heading) (g .heading))
+    (and-i (serial-line-laws .within (p .heading .title .serial) (serial-of (p .heading) v))
+    (and-i (aerodrome-laws .within (p .heading .title .aerodrome) (and-2 _ _ (and-2 _ _ v)))
+    (all-append inline (map rowPieces (p .rows)) (remarkLines (p .remarks .items) (p .remarks .language)) (rows-inline (p .rows) (g .rows .valid))
+    (remarks-inline (p .remarks .items) (p .remarks .language) (g .items) (g .language)))))))

@@ -34,7 +34,8 @@ made p = makeRecord (p .addresses) (p .filing) (p .heading .title) (p .rows) (p 
 
 abbrev pub partLines : Parts → List (List Piece)
 partLines p =
-    addressesPieces (p .addresses) ∷ filingPieces (p .filing) ∷ headingPieces (p .heading) ∷ serialPieces (p .heading .title .serial) ∷ aerodromePieces (p .heading .title .aerodrome)
+    addressesPieces (p .addresses) ∷ filingPieces (p .filing) ∷ headingPieces (p .heading) ∷ serialPieces (p .heading .title .serial)
+    ∷ aerodromePieces (p .heading .title .aerodrome)
     ∷ (map rowPieces (p .rows) ++ remarkLines (p .remarks .items) (p .remarks .language))
 
 pub record Good (p : Parts) : Type 0 where
@@ -72,7 +73,14 @@ module _ (p : Parts) (g : Good p) where
       let is = items-kept (p .remarks .items) (g .items) in
       let l = language-kept (p .remarks .language) (g .language) in
       let t = ap latest rs ∙ sym (g .time) in
-      λ i. record { addresses = p .addresses; filing = p .filing; heading = record { title = p .heading .title; time = t i }; rows = rs i; remarks = record { items = is i; language = l i } }
+      λ i. record {
+        addresses = p .addresses;
+        filing = p .filing;
+        heading = record { title = p .heading .title; time = t i };
+        rows = rs i;
+        remarks =
+            record { items = is i; language = l i };
+      }
 
   pub good-valid : validRecord (made p) ≡ true
   unfolding validRecord

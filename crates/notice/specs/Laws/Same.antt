@@ -4,7 +4,8 @@ use mathlib.Core.Path.{_≡_, sym, _∙_, ap}
 use mathlib.Core.List.{List}
 use mathlib.Core.Bool.{Bool, true, false}
 use Rattle.text.specs.Laws.Base.{and-1, and-2, and-i, true-false}
-use Rattle.sameness.specs.Laws.{addresses-same, same-addresses, filing-same, same-filing, title-same, same-title, rows-same, same-rows, items-same, same-items, language-same, same-language}
+use Rattle.sameness.specs.Laws.{addresses-same, same-addresses, filing-same, same-filing, title-same, same-title, rows-same, same-rows, items-same}
+use Rattle.sameness.specs.Laws.{same-items, language-same, same-language}
 use Rattle.record.specs.declared.Record.{Record}
 use Rattle.record.specs.declared.Reading.{Reading}
 use Rattle.record.specs.Record.{validRecord}

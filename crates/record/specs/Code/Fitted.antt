@@ -1,7 +1,7 @@
 -- Parts of a message that fit, each by itself, as the code holds them.
 use Prim.Native.Nat.{ℕ}
 use lib.Dec.{eqb}
-use Rattle.text.specs.Choice.{pick}
+use mathlib.Core.Bool.{cond}
 use Rattle.body.specs.declared.Rows.{Rows}
 use Rattle.body.specs.Rows.{rowsOf}
 use Rattle.remarks.specs.declared.RemarksRead.{RemarksRead}
@@ -20,4 +20,4 @@ recordOf f r x = record { addresses = f .addresses; filing = f .filing; title = 
 
 -- the refusal of parts of which the remarks gave this one: it comes first
 unfoldable pub lastRefusal : Front → Rows → ℕ → ℕ
-lastRefusal f r n = pick (eqb n 0) (partsMismatch f r) n
+lastRefusal f r n = cond (eqb n 0) (partsMismatch f r) n

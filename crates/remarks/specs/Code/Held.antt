@@ -1,10 +1,9 @@
 -- What the code's answers say of reading below the rows.
 use Prim.Native.Nat.{ℕ, _-_}
 use mathlib.Core.List.{List, []}
-use mathlib.Core.Bool.{Bool}
+use mathlib.Core.Bool.{cond, Bool}
 use lib.Dec.{eqb}
 use lib.ListN.{length, take}
-use Rattle.text.specs.Choice.{pick}
 use Rattle.text.specs.Lines.{lineSize, lineStep, closed, lineText}
 use Rattle.items.specs.Language.{validLanguage}
 use Rattle.awareness.specs.declared.ItemsRead.{ItemsRead}
@@ -30,24 +29,25 @@ noTail n = record { refusal = n; size = 0 }
 
 -- behind the line that `)` closes: "bytes after the end"
 unfoldable pub ending : ℕ → ℕ → Tail
-ending size left = pick (eqb left 0) (record { refusal = 0; size = size }) (noTail outline)
+ending size left = cond (eqb left 0) (record { refusal = 0; size = size }) (noTail outline)
 
 -- the awareness line is the last: 8 where it is "empty before `)`"
 unfoldable pub lastItems : ℕ → ℕ → Tail
-lastItems count left = pick (eqb count 0) (noTail wrongItems) (ending 0 left)
+lastItems count left = cond (eqb count 0) (noTail wrongItems) (ending 0 left)
 
 -- plain language that `)` closes: 9 where it does not fit
 unfoldable pub lastLanguage : List ℕ → ℕ → Tail
-lastLanguage l left = pick (validLanguage l) (ending (length l) left) (noTail wrongLanguage)
+lastLanguage l left = cond (validLanguage l) (ending (length l) left) (noTail wrongLanguage)
 
 -- the line of plain language: 4 where it is missing, and "at once" where it lacks `)`
 unfoldable pub nextLanguage : List ℕ → Tail
-nextLanguage m = pick (closed (take (lineSize m) m)) (lastLanguage (lineText (take (lineSize m) m)) (length m - lineStep m)) (noTail outline)
+nextLanguage m = cond (closed (take (lineSize m) m)) (lastLanguage (lineText (take (lineSize m) m)) (length m - lineStep m)) (noTail outline)
 
 -- the awareness line: whether it fits, how many items it has, whether `)` closes it, and what is left behind it
 unfoldable pub itemsStep : Bool → ℕ → Bool → List ℕ → Tail
-itemsStep fits count c rest = pick fits (pick c (lastItems count (length rest)) (nextLanguage rest)) (noTail wrongItems)
+itemsStep fits count c rest = cond fits (cond c (lastItems count (length rest)) (nextLanguage rest)) (noTail wrongItems)
 
 -- the items, and the plain language at the front of what is left behind them
 unfoldable pub joined : ItemsRead → Tail → List ℕ → RemarksRead
-joined r t rest = pick (eqb (t .refusal) 0) (record { refusal = 0; items = record { count = r .count; items = r .items }; language = makeLanguage (take (t .size) rest) }) (noRemarks (t .refusal))
+joined r t rest = cond (eqb (t .refusal) 0) (record
+    { refusal = 0; items = record { count = r .count; items = r .items }; language = makeLanguage (take (t .size) rest) }) (noRemarks (t .refusal))

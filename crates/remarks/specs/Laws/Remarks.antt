@@ -2,11 +2,11 @@
 use Prim.Native.Nat.{ℕ}
 use mathlib.Core.Path.{_≡_, refl, sym, subst, _∙_, ap}
 use mathlib.Core.List.{List, [], _∷_}
-use mathlib.Core.Bool.{Bool, true, false}
+use mathlib.Core.Bool.{cond, Bool, true, false}
 use lib.Dec.{lit<, lit≤}
 use borrow.Author.Tests.{leb-true}
 use native.Mathlib.Omega.{arith}
-use Rattle.text.specs.Choice.{pick, _and_, isEmpty}
+use Rattle.text.specs.Choice.{_and_, isEmpty}
 use Rattle.text.specs.Piece.{Piece, Typed, Typing, verbatim}
 use Rattle.text.specs.Read.{got}
 use Rattle.text.specs.Lines.{closed, lineText}
@@ -20,8 +20,9 @@ use Rattle.items.specs.Laws.Language.{language-laws}
 use Rattle.text.specs.Out.{refuse, taken, fit, atEnd, After, finished, more}
 use Rattle.items.specs.Parts.{noneOrLanguage}
 use Rattle.remarks.specs.Remarks.{languageLines, remarkLines, Remarks, remarks, readLanguageLine, readRemarks}
-use Rattle.text.specs.Laws.Out.{no-refuse, took, fit-took, end-took, Numbered, fit-numbered, pick-numbered, end-numbered}
-use Rattle.text.specs.Laws.Told.{Follows, closed-tells, open-tells, Told, last-line, one-line, told, told-some, Tail, nothing, something, opened-closed, opened-open}
+use Rattle.text.specs.Laws.Out.{no-refuse, took, fit-took, end-took, Numbered, fit-numbered, cond-numbered, end-numbered}
+use Rattle.text.specs.Laws.Told.{Follows, closed-tells, open-tells, Told, last-line, one-line, told, told-some, Tail, nothing, something, opened-closed}
+use Rattle.text.specs.Laws.Told.{opened-open}
 
 pub record Remarked (after : After) (x : Remarks) : Type 0 where
   pub items : validItems (x .items) ≡ true
@@ -78,11 +79,13 @@ remarks-sound (more (l ∷ ls)) {x} e =
     let w = items-took (f .one) in
     go (f .val) (w .0) (w .1) (closed l) refl (isEmpty (f .val)) refl (f .two)
   where
-    behind : (is : List Item) → validItems is ≡ true → Typing (awarenessPieces is) (lineText l) → closed l ≡ false → (ls : List (List ℕ)) → readLanguageLine is ls ≡ taken x → Remarked (more (l ∷ ls)) x
+    behind : (is : List Item) → validItems is ≡ true → Typing (awarenessPieces is) (lineText l) → closed l ≡ false → (ls : List (List ℕ))
+        → readLanguageLine is ls ≡ taken x → Remarked (more (l ∷ ls)) x
     behind is v t c [] f = no-refuse f
     behind is v t c (k ∷ ks) f = pl (closed k) refl f
       where
-        pl : (b : Bool) → closed k ≡ b → pick b (fit 9 (wholeLanguage (lineText k)) (λ p. atEnd ks (remarks is p))) (refuse 4) ≡ taken x → Remarked (more (l ∷ k ∷ ks)) x
+        pl : (b : Bool) → closed k ≡ b → cond b (fit 9 (wholeLanguage (lineText k)) (λ p. atEnd ks (remarks is p))) (refuse 4) ≡ taken x
+            → Remarked (more (l ∷ k ∷ ks)) x
         pl false q g = no-refuse g
         pl true q g =
             let y = fit-took 9 (wholeLanguage (lineText k)) g in
@@ -91,22 +94,29 @@ remarks-sound (more (l ∷ ls)) {x} e =
             took (Remarked (more (l ∷ k ∷ ks))) (d .1) (record {
               items = v;
               language = none-or (y .val) (z .0);
-              follows = (awarenessPieces is ∷ verbatim (y .val) ∷ [], with-language is (y .val) (language-some (y .val) (z .0)), open-tells l c t (closed-tells k q (d .0) (z .1)));
+              follows = (
+                awarenessPieces is ∷ verbatim (y .val)
+                    ∷ [],
+                with-language is (y .val) (language-some (y .val) (z .0)),
+                open-tells l c t (closed-tells k q (d .0) (z .1)),
+              );
             })
 
     go : (is : List Item) → validItems is ≡ true → Typing (awarenessPieces is) (lineText l) → (c : Bool) → closed l ≡ c → (b : Bool) → isEmpty is ≡ b
-        → pick c (pick b (refuse 8) (atEnd ls (remarks is []))) (readLanguageLine is ls) ≡ taken x → Remarked (more (l ∷ ls)) x
+        → cond c (cond b (refuse 8) (atEnd ls (remarks is []))) (readLanguageLine is ls) ≡ taken x → Remarked (more (l ∷ ls)) x
     go is v t true c true b f = no-refuse f
     go is v t true c false b f =
         let d = end-took ls f in
-        took (Remarked (more (l ∷ ls))) (d .1) (record { items = v; language = refl; follows = (awarenessPieces is ∷ [], with-items is b, closed-tells l c (d .0) t) })
+        took (Remarked (more (l ∷ ls))) (d .1) (record
+        { items = v; language = refl; follows = (awarenessPieces is ∷ [], with-items is b, closed-tells l c (d .0) t) })
     go is v t false c b q f = behind is v t c ls f
 
 -- the other way
 abbrev below : List Item → List ℕ → List (List Piece)
 below is p = awarenessPieces is ∷ languageLines p
 
-language-read : (is : List Item) (p : List ℕ) {ls : List (List ℕ)} → validLanguage p ≡ true → Tells (verbatim p ∷ []) ls → readLanguageLine is ls ≡ taken (remarks is p)
+language-read : (is : List Item) (p : List ℕ) {ls : List (List ℕ)} → validLanguage p ≡ true → Tells (verbatim p ∷ []) ls
+    → readLanguageLine is ls ≡ taken (remarks is p)
 unfolding wholeLanguage
 language-read is p {ls} v t = go (told t)
   where
@@ -117,7 +127,8 @@ language-read is p {ls} v t = go (told t)
         ap (readLanguageLine is) f ∙ rw (w, o .0)
     go (one-line l ls′ f u w) = true-false (told-some w)
 
-told-below : (is : List Item) (p : List ℕ) {ls : List (List ℕ)} → validItems is ≡ true → noneOrLanguage p ≡ true → (isEmpty p ≡ true → isEmpty is ≡ false) → Tells (below is p) ls → readRemarks (more ls) ≡ taken (remarks is p)
+told-below : (is : List Item) (p : List ℕ) {ls : List (List ℕ)} → validItems is ≡ true → noneOrLanguage p ≡ true → (isEmpty p ≡ true → isEmpty is ≡ false)
+    → Tells (below is p) ls → readRemarks (more ls) ≡ taken (remarks is p)
 unfolding noneOrLanguage
 told-below is [] {ls} v w h t = go (told t)
   where
@@ -142,12 +153,14 @@ follows-some : (after : After) (qss : List (List Piece)) → Follows after ([] �
 follows-some finished qss h = let z : _≡_ {A = ℕ} 0 1 = cc in absurd (omega arith)
 follows-some (more ls) qss h = let e = h .1 in let q : h .0 ≡ qss = cc in (ls, refl, subst (λ k. Tells k ls) q (h .2))
 
-some-complete : (after : After) (is : List Item) (p : List ℕ) → validItems is ≡ true → noneOrLanguage p ≡ true → (isEmpty p ≡ true → isEmpty is ≡ false) → Follows after ([] ∷ below is p) → readRemarks after ≡ taken (remarks is p)
+some-complete : (after : After) (is : List Item) (p : List ℕ) → validItems is ≡ true → noneOrLanguage p ≡ true → (isEmpty p ≡ true → isEmpty is ≡ false)
+    → Follows after ([] ∷ below is p) → readRemarks after ≡ taken (remarks is p)
 some-complete after is p v w h f =
     let g = follows-some after (below is p) f in
     ap readRemarks (g .1) ∙ told-below is p v w h (g .2)
 
-pub remarks-complete : (after : After) (is : List Item) (p : List ℕ) → validItems is ≡ true → noneOrLanguage p ≡ true → Follows after (remarkLines is p) → readRemarks after ≡ taken (remarks is p)
+pub remarks-complete : (after : After) (is : List Item) (p : List ℕ) → validItems is ≡ true → noneOrLanguage p ≡ true → Follows after (remarkLines is p)
+    → readRemarks after ≡ taken (remarks is p)
 unfolding _and_
 remarks-complete after [] [] v w f = ap readRemarks (follows-none after f)
 remarks-complete after [] (c ∷ p) v w f = some-complete after [] (c ∷ p) v w (λ e. true-false (sym e)) f
@@ -164,9 +177,11 @@ remarks-tail (i ∷ is) (c ∷ p) = something
 -- every refusal below the rows has a number
 language-numbered : (is : List Item) (ls : List (List ℕ)) → Numbered (readLanguageLine is ls)
 language-numbered is [] = (lit< tt, lit≤ tt)
-language-numbered is (l ∷ ls) = pick-numbered (closed l) _ _ (fit-numbered (wholeLanguage (lineText l)) _ (lit< tt, lit≤ tt) (λ p. end-numbered ls (remarks is p))) (lit< tt, lit≤ tt)
+language-numbered is (l ∷ ls) = cond-numbered (closed l) _ _
+    (fit-numbered (wholeLanguage (lineText l)) _ (lit< tt, lit≤ tt) (λ p. end-numbered ls (remarks is p))) (lit< tt, lit≤ tt)
 
 pub remarks-numbered : (after : After) → Numbered (readRemarks after)
 remarks-numbered finished = tt
 remarks-numbered (more []) = (lit< tt, lit≤ tt)
-remarks-numbered (more (l ∷ ls)) = fit-numbered (wholeAwareness (lineText l)) _ (lit< tt, lit≤ tt) (λ is. pick-numbered (closed l) _ _ (pick-numbered (isEmpty is) _ _ (lit< tt, lit≤ tt) (end-numbered ls (remarks is []))) (language-numbered is ls))
+remarks-numbered (more (l ∷ ls)) = fit-numbered (wholeAwareness (lineText l)) _ (lit< tt, lit≤ tt)
+    (λ is. cond-numbered (closed l) _ _ (cond-numbered (isEmpty is) _ _ (lit< tt, lit≤ tt) (end-numbered ls (remarks is []))) (language-numbered is ls))

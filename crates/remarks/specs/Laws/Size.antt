@@ -2,12 +2,12 @@
 use Prim.Native.Nat.{ℕ, suc, _≤_}
 use mathlib.Core.Path.{_≡_}
 use mathlib.Core.List.{List, [], _∷_}
-use mathlib.Core.Bool.{Bool, true, false}
+use mathlib.Core.Bool.{cond, Bool, true, false}
 use lib.Dec.{lit≤}
 use lib.ListN.{length}
 use borrow.Author.Tests.{leb-true}
 use native.Mathlib.Omega.{arith}
-use Rattle.text.specs.Choice.{pick, _and_, isEmpty}
+use Rattle.text.specs.Choice.{_and_, isEmpty}
 use Rattle.text.specs.Laws.Base.{and-1, and-2}
 use Rattle.text.specs.Laws.Sizes.{no-size, verbatim-size, total}
 use Rattle.items.specs.declared.Item.{Item}
@@ -26,6 +26,6 @@ pub remarks-size : (is : List Item) (p : List ℕ) → validItems is ≡ true �
 unfolding total
 remarks-size is p v w = go (isEmpty is and isEmpty p)
   where
-    go : (b : Bool) → total (pick b [] ([] ∷ awarenessPieces is ∷ languageLines p)) ≤ 1906
+    go : (b : Bool) → total (cond b [] ([] ∷ awarenessPieces is ∷ languageLines p)) ≤ 1906
     go true = lit≤ tt
     go false = let a = awareness-size is v in let c = language-size p w in rw no-size (omega arith)

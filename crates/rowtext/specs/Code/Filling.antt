@@ -4,7 +4,7 @@ use mathlib.Core.Path.{_≡_}
 use mathlib.Core.List.{List}
 use lib.Dec.{eqb}
 use lib.ListN.{length, drop}
-use Rattle.text.specs.Choice.{pick}
+use mathlib.Core.Bool.{cond}
 use Rattle.text.specs.Read.{Got, misfit, got, andThen, readAs, readGap}
 use Rattle.text.specs.Numbers.{readDigits}
 use Rattle.runway.specs.Runway.{readRunway}
@@ -47,10 +47,10 @@ groupCount = 5
 -- the group at a place, counted from 0, read into the row
 unfoldable pub fillGroup : ℕ → Row → List ℕ → Got Row
 fillGroup g r m =
-    pick (eqb g 0) (readAs (withTime r) (readDigits 8) m)
-    (pick (eqb g 1) (readAs (withRunway r) (readGap readRunway) m)
-    (pick (eqb g 2) (readAs (withCodes r) (readGroup codes) m)
-    (pick (eqb g 3) (readAs (withRest r) (readRest (numbersOf codes r)) m)
+    cond (eqb g 0) (readAs (withTime r) (readDigits 8) m)
+    (cond (eqb g 1) (readAs (withRunway r) (readGap readRunway) m)
+    (cond (eqb g 2) (readAs (withCodes r) (readGroup codes) m)
+    (cond (eqb g 3) (readAs (withRest r) (readRest (numbersOf codes r)) m)
     (readAs (withWidth r) readWidth m))))
 
 -- n groups from the group g on
@@ -58,11 +58,11 @@ unfoldable pub fillFrom : ℕ → ℕ → Row → List ℕ → Got Row
 fillFrom zero g r m = got r m
 fillFrom (suc n) g r m = andThen (fillGroup g r m) (fillFrom n (suc g))
 
--- what the code's rowAnswer says of the reading of a group
+-- what the code's answer says of the reading of a group
 pub record Filled (m : List ℕ) (g : Got Row) (r : Step) : Type 0 where
   pub within : r .next ≤ length m
-  pub says : g ≡ pick (r .fits) (got (r .row) (drop (r .next) m)) misfit
+  pub says : g ≡ cond (r .fits) (got (r .row) (drop (r .next) m)) misfit
 
 -- a row whose groups gave this refusal
 unfoldable pub judgedRow : ℕ → Row → RowRead
-judgedRow n r = pick (eqb n 0) (pick (validRow r) (record { refusal = 0; row = r }) (rowAnswer misfit)) (rowAnswer misfit)
+judgedRow n r = cond (eqb n 0) (cond (validRow r) (record { refusal = 0; row = r }) (rowAnswer misfit)) (rowAnswer misfit)

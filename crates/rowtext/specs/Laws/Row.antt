@@ -2,11 +2,11 @@
 use Prim.Native.Nat.{ℕ, _<_, _≤_, _/_, _^_}
 use mathlib.Core.Path.{_≡_, refl, sym, _∙_, ap}
 use mathlib.Core.List.{List, [], _∷_, _++_, append-assoc}
-use mathlib.Core.Bool.{Bool, true, false}
+use mathlib.Core.Bool.{cond, Bool, true, false}
 use lib.Dec.{eqb, leb}
 use borrow.Author.Tests.{eqb-true, leb-true}
 use native.Mathlib.Omega.{arith}
-use Rattle.text.specs.Choice.{pick, _and_}
+use Rattle.text.specs.Choice.{_and_}
 use Rattle.text.specs.Piece.{Piece, gap, nrGroups}
 use Rattle.text.specs.Numbers.{isDigit, digits}
 use Rattle.text.specs.Laws.Base.{Laws, Head, and-1, and-2, head-not, not-space}
@@ -73,11 +73,11 @@ valid-third t h =
       description = leb-true (t .description) dry (and-1 _ _ h₁);
     }
   where
-    cov : (e b : Bool) → eqb (t .coverage) 0 ≡ b → pick b true (isCoverage (t .coverage) and e) ≡ true → t .coverage ≤ 100
+    cov : (e b : Bool) → eqb (t .coverage) 0 ≡ b → cond b true (isCoverage (t .coverage) and e) ≡ true → t .coverage ≤ 100
     cov e true q k = let z = eqb-true (t .coverage) 0 q in omega arith
     cov e false q k = coverage-low (t .coverage) (and-1 _ _ k)
 
-    dep : (e b : Bool) → eqb (t .depth) 0 ≡ b → pick b true (e and leb (t .depth) 999) ≡ true → t .depth ≤ 999
+    dep : (e b : Bool) → eqb (t .depth) 0 ≡ b → cond b true (e and leb (t .depth) 999) ≡ true → t .depth ≤ 999
     dep e true q k = let z = eqb-true (t .depth) 0 q in omega arith
     dep e false q k = leb-true (t .depth) 999 (and-2 _ _ k)
 
@@ -100,13 +100,14 @@ valid-row r h =
     let b = t .two in
     let c = t .three in
     let codes-shown : Shown codes (numbersOf codes r) = (a .code, b .code, c .code) in
-    let rest-shown : Valid (numbersOf coverages r, (numbersOf depths r, numbersOf descriptions r)) = ((a .coverage, b .coverage, c .coverage), ((a .depth, b .depth, c .depth), (a .description, b .description, c .description))) in
+    let rest-shown : Valid (numbersOf coverages r, (numbersOf depths r, numbersOf descriptions r)) =
+    ((a .coverage, b .coverage, c .coverage), ((a .depth, b .depth, c .depth), (a .description, b .description, c .description))) in
     let whole : makeRow (takeRow r) ≡ r = λ i. record { time = r .time; number = r .number; side = r .side; thirds = t .all3 i; width = r .width } in
     (((real-low (r .time) (and-1 _ _ h), ((omega arith, s), (codes-shown, (rest-shown, omega arith)))), whole), h)
 
 -- the groups' text is the row's
 formed-is : (r : Row) (b : Bool) (w : List Piece) → formed b (takeRow r .1 .1 .1 .0) ++ w
-    ≡ pick b (nrGroups ∷ []) (groupOf coverages r ++ groupOf depths r) ++ (groupOf descriptions r ++ w)
+    ≡ cond b (nrGroups ∷ []) (groupOf coverages r ++ groupOf depths r) ++ (groupOf descriptions r ++ w)
 formed-is r true w = refl
 formed-is r false w =
     let a = groupOf coverages r in

@@ -1,14 +1,13 @@
 -- A row's text has at most 147 bytes.
 use Prim.Native.Nat.{ℕ, _≤_}
 use mathlib.Core.List.{[], _∷_, _++_}
-use mathlib.Core.Bool.{Bool, true, false}
+use mathlib.Core.Bool.{cond, Bool, true, false}
 use lib.Dec.{eqb, lit≤}
 use lib.ListN.{length}
 use native.Mathlib.Omega.{arith}
-use Rattle.text.specs.Choice.{pick}
 use Rattle.text.specs.Piece.{gap, nrGroups, canonical}
 use Rattle.text.specs.Numbers.{digits}
-use Rattle.text.specs.Laws.Sizes.{size, cons-size, no-size, append-size, digits-size, pick-size}
+use Rattle.text.specs.Laws.Sizes.{size, cons-size, no-size, append-size, digits-size, cond-size}
 use Rattle.runway.specs.Runway.{runwayPieces}
 use Rattle.runway.specs.Laws.Runway.{runway-size}
 use Rattle.thirds.specs.Groups.{codes, coverages, depths, descriptions}
@@ -20,14 +19,14 @@ use Rattle.row.specs.declared.Row.{Row}
 
 width-size : (w : ℕ) → size (widthPieces w) ≤ 3
 unfolding widthPieces
-width-size w = pick-size 3 (eqb w 0) [] (gap ∷ digits 2 w) (rw no-size (lit≤ tt)) (rw (cons-size, digits-size) (lit≤ tt))
+width-size w = cond-size 3 (eqb w 0) [] (gap ∷ digits 2 w) (rw no-size (lit≤ tt)) (rw (cons-size, digits-size) (lit≤ tt))
 
 middle-size : (r : Row) → size (middlePieces r) ≤ 24
 unfolding middlePieces
 middle-size r =
     let a = coverages-size (numbersOf coverages r) in
     let b = depths-size (numbersOf depths r) in
-    pick-size 24 (isShort (r .thirds)) (nrGroups ∷ []) (groupOf coverages r ++ groupOf depths r)
+    cond-size 24 (isShort (r .thirds)) (nrGroups ∷ []) (groupOf coverages r ++ groupOf depths r)
     (rw (cons-size, no-size) (lit≤ tt)) (rw (append-size (groupOf coverages r) (groupOf depths r)) (omega arith))
 
 pub row-size : (r : Row) → size (rowPieces r) ≤ 147
@@ -52,6 +51,6 @@ pub text-size : (r : Row) → length (rowText r) ≤ 147
 unfolding rowText size
 text-size r = go (validRow r)
   where
-    go : (b : Bool) → length (pick b (canonical (rowPieces r)) []) ≤ 147
+    go : (b : Bool) → length (cond b (canonical (rowPieces r)) []) ≤ 147
     go true = row-size r
     go false = lit≤ tt

@@ -2,22 +2,24 @@
 use Prim.Native.Nat.{ℕ, _<_}
 use mathlib.Core.Path.{_≡_, refl, sym, _∙_, subst, ap}
 use mathlib.Core.List.{List, [], _∷_, _++_}
-use mathlib.Core.Bool.{Bool, true, false, not}
+use mathlib.Core.Bool.{cond, Bool, true, false, not}
 use lib.Dec.{eqb, leb, lit<, lit≤}
 use borrow.Author.Tests.{eqb-true, eqb-false, ne-eqb, leb-true, le-leb, lt-leb, not-true}
 use native.Mathlib.Omega.{arith}
-use Rattle.text.specs.Choice.{pick, _and_, headIs}
+use Rattle.text.specs.Choice.{_and_, headIs}
 use Rattle.text.specs.Piece.{Piece, gap, nrGroups, nrText, Typed, done, step, nrWritten, nrLeftOut, spell, bytes}
 use Rattle.text.specs.Read.{Got, misfit, got, orElse, guard, skip, readIf, readGap, readText}
 use Rattle.text.specs.Numbers.{isDigit, digits, readDigits}
 use Rattle.text.specs.Names.{isLetter, isName}
 use Rattle.text.specs.Laws.Typing.{join, cut}
-use Rattle.text.specs.Laws.Base.{Laws, Head, Any, inline, true-false, and-1, and-2, and-i, and-r, then-got, guard-got, carry, head-not, head-off, not-space, text-off}
+use Rattle.text.specs.Laws.Base.{Laws, Head, Any, inline, true-false, and-1, and-2, and-i, and-r, then-got, guard-got, carry, head-not, head-off, not-space}
+use Rattle.text.specs.Laws.Base.{text-off}
 use Rattle.text.specs.Laws.Combine.{seq-laws, if-laws, as-laws, gap-laws, Gap, revalid, or-laws}
 use Rattle.text.specs.Laws.Numbers.{digits-laws, digit-stops}
 use Rattle.text.specs.Laws.Names.{wordNext}
 use Rattle.text.specs.Laws.Lines.{Ends}
-use Rattle.thirds.specs.Groups.{Three, coverages, depths, descriptions, measurePieces, readMeasure, thirdPieces, readThird, readThree, highest, groupPieces, readGroup}
+use Rattle.thirds.specs.Groups.{Three, coverages, depths, descriptions, measurePieces, readMeasure, thirdPieces, readThird, readThree, highest, groupPieces}
+use Rattle.thirds.specs.Groups.{readGroup}
 use Rattle.thirds.specs.Laws.Groups.{Shown, coverages-laws, depths-laws, descriptions-laws, letter-name}
 use Rattle.thirds.specs.Laws.Alike.{coverages-descriptions}
 use Rattle.row.specs.Row.{isBare, isShort}
@@ -42,11 +44,12 @@ full t = groupPieces coverages (t .0) ++ (groupPieces depths (t .1 .0) ++ groupP
 
 -- the text of the full form, or that of the short one
 abbrev pub formed : Bool → Rest → List Piece
-formed short t = pick short (nrGroups ∷ groupPieces descriptions (t .1 .1)) (full t)
+formed short t = cond short (nrGroups ∷ groupPieces descriptions (t .1 .1)) (full t)
 
 full-laws : Laws Valid full readFull (Gap (Head isName)) (λ r. wordNext r ≡ false)
 unfolding readFull
-full-laws = seq-laws coverages-laws (seq-laws depths-laws descriptions-laws (λ m h. head-not 32 isDigit refl m (h .0))) (λ m h. head-not 32 isDigit refl m (h .0))
+full-laws = seq-laws coverages-laws (seq-laws depths-laws descriptions-laws (λ m h. head-not 32 isDigit refl m (h .0)))
+    (λ m h. head-not 32 isDigit refl m (h .0))
 
 abbrev bare : Three → Rest
 bare k = (allNR, (allNR, k))
@@ -66,7 +69,9 @@ module _ (code : Three) where
   short-bare : (t : Rest) → brief t ≡ true → t ≡ bare (t .1 .1)
   unfolding isShort isBare
   short-bare t h =
-      let z : (c d : ℕ) (e : Bool) → ((eqb c 0 and eqb d 0) and e) ≡ true → (c ≡ 0) × (d ≡ 0) = λ c d e k. let g = and-1 (eqb c 0 and eqb d 0) e k in (eqb-true c 0 (and-1 (eqb c 0) (eqb d 0) g), eqb-true d 0 (and-2 (eqb c 0) (eqb d 0) g)) in
+      let z : (c d : ℕ) (e : Bool) → ((eqb c 0 and eqb d 0) and e) ≡ true
+      → (c ≡ 0) × (d ≡ 0) = λ c d e k. let g = and-1 (eqb c 0 and eqb d 0) e k in
+      (eqb-true c 0 (and-1 (eqb c 0) (eqb d 0) g), eqb-true d 0 (and-2 (eqb c 0) (eqb d 0) g)) in
       let g = and-1 _ _ h in
       let p = z (t .0 .0) (t .1 .0 .0) _ g in
       let q = z (t .0 .1) (t .1 .0 .1) _ (and-2 _ _ g) in
@@ -95,20 +100,23 @@ module _ (code : Three) where
       (λ t h. (h .0 .1 .1, sym (h .1)))) brief) (λ t. Valid t × (brief t ≡ true))
       (λ t h. (h .0 .0, h .1)) (λ t h. ((h .0, short-bare t (h .1)), h .1))
 
-  rest-sound : (m : List ℕ) (g : Got Rest) → readFull m ≡ g → {t : Rest} {r : List ℕ} → orElse g (readShort code m) ≡ got t r → Valid t × Typed (formed (brief t) t) m r
+  rest-sound : (m : List ℕ) (g : Got Rest) → readFull m ≡ g → {t : Rest} {r : List ℕ} → orElse g (readShort code m) ≡ got t r
+      → Valid t × Typed (formed (brief t) t) m r
   rest-sound m misfit q {t} {r} e = let x = short-laws .sound e in (x .0 .0, subst (λ b. Typed (formed b t) m r) (sym (x .0 .1)) (step nrLeftOut (x .1)))
   rest-sound m (got u k) q {t} {r} e = let x = full-laws .sound (q ∙ e) in (x .0, rest-full t (brief t) refl (x .1))
 
   rest-complete : (t : Rest) (b : Bool) → brief t ≡ b → {m r : List ℕ} → Valid t → Typed (formed b t) m r → Behind r → readRest code m ≡ got t r
   rest-complete t false q v x h = rw (full-laws .complete t v x (h .0))
-  rest-complete t true q {m} {r} v (step nrLeftOut u) h = rw (full-misfit m (descriptions-laws .complete (t .1 .1) (v .1 .1) u (h .0)) (h .1)) (short-laws .complete t (v, q) u (h .0))
+  rest-complete t true q {m} {r} v (step nrLeftOut u) h =
+      rw (full-misfit m (descriptions-laws .complete (t .1 .1) (v .1 .1) u (h .0)) (h .1)) (short-laws .complete t (v, q) u (h .0))
   rest-complete t true q {m} {r} v (nrWritten n u) h =
       rw (full-laws .complete t v (subst (λ w. Typed (full w) m r) (sym (short-bare t q)) (typed-in (t .1 .1) n u)) (h .0))
 
   rest-starts : (t : Rest) (b : Bool) → brief t ≡ b → {m r : List ℕ} → Valid t → Typed (formed b t) m r → Behind r → Gap (Head isName) m
   rest-starts t false q v x h = full-laws .starts t v x (h .0)
   rest-starts t true q {m} {r} v (step nrLeftOut u) h = let g = descriptions-laws .starts (t .1 .1) (v .1 .1) u (h .0) in (g .0, letter-name (skip m) (g .1))
-  rest-starts t true q {m} {r} v (nrWritten n u) h = full-laws .starts t v (subst (λ w. Typed (full w) m r) (sym (short-bare t q)) (typed-in (t .1 .1) n u)) (h .0)
+  rest-starts t true q {m} {r} v (nrWritten n u) h =
+      full-laws .starts t v (subst (λ w. Typed (full w) m r) (sym (short-bare t q)) (typed-in (t .1 .1) n u)) (h .0)
 
   rest-within : (t : Rest) (b : Bool) → Valid t → inline (formed b t) ≡ true
   unfolding inline
@@ -185,10 +193,14 @@ pub width-laws : Laws (λ w. w < 100) widthPieces readWidth Behind Ends
 unfolding inline widthPieces readWidth
 width-laws = or-laws broad
     (record {
-      sound = λ {a} {m} {r} e. let x = some-laws .sound e in let n = not-true (eqb a 0) (pos-broad a (x .0 .1)) in ((x .0 .0, pos-broad a (x .0 .1)), rw n (x .1));
-      complete = λ w {m} {r} v t h. some-laws .complete w (v .0, broad-pos w (v .1)) (subst (λ b. Typed (pick b [] (gap ∷ digits 2 w)) m r) (not-true (eqb w 0) (v .1)) t) tt;
-      starts = λ w {m} {r} v t h. some-behind w (v .0, broad-pos w (v .1)) (subst (λ b. Typed (pick b [] (gap ∷ digits 2 w)) m r) (not-true (eqb w 0) (v .1)) t) h;
-      within = λ w v. subst (λ b. inline (pick b [] (gap ∷ digits 2 w)) ≡ true) (sym (not-true (eqb w 0) (v .1))) (some-laws .within w (v .0, broad-pos w (v .1)));
+      sound = λ {a} {m} {r} e. let x = some-laws .sound e in let n = not-true (eqb a 0) (pos-broad a (x .0 .1)) in
+          ((x .0 .0, pos-broad a (x .0 .1)), rw n (x .1));
+      complete = λ w {m} {r} v t h. some-laws .complete w (v .0, broad-pos w (v .1))
+          (subst (λ b. Typed (cond b [] (gap ∷ digits 2 w)) m r) (not-true (eqb w 0) (v .1)) t) tt;
+      starts = λ w {m} {r} v t h. some-behind w (v .0, broad-pos w (v .1))
+          (subst (λ b. Typed (cond b [] (gap ∷ digits 2 w)) m r) (not-true (eqb w 0) (v .1)) t) h;
+      within = λ w v. subst (λ b. inline (cond b [] (gap ∷ digits 2 w)) ≡ true) (sym (not-true (eqb w 0) (v .1)))
+          (some-laws .within w (v .0, broad-pos w (v .1)));
     })
     (record {
       sound = λ {a} {m} e. carry (λ w r. ((w < 100) × (broad w ≡ false)) × Typed (widthPieces w) m r) e ((lit< tt, refl), done);
@@ -198,18 +210,18 @@ width-laws = or-laws broad
     })
     (λ w m r v c t h. none-off w (eqb w 0) refl c t h)
   where
-    none-complete : (w : ℕ) (b : Bool) → eqb w 0 ≡ b → {m r : List ℕ} → not b ≡ false → Typed (pick b [] (gap ∷ digits 2 w)) m r → got 0 m ≡ got w r
+    none-complete : (w : ℕ) (b : Bool) → eqb w 0 ≡ b → {m r : List ℕ} → not b ≡ false → Typed (cond b [] (gap ∷ digits 2 w)) m r → got 0 m ≡ got w r
     none-complete w true q n done = rw (eqb-true w 0 q)
     none-complete w false q n t = true-false n
 
-    none-starts : (w : ℕ) (b : Bool) → eqb w 0 ≡ b → {m r : List ℕ} → not b ≡ false → Typed (pick b [] (gap ∷ digits 2 w)) m r → r ≡ [] → Behind m
+    none-starts : (w : ℕ) (b : Bool) → eqb w 0 ≡ b → {m r : List ℕ} → not b ≡ false → Typed (cond b [] (gap ∷ digits 2 w)) m r → r ≡ [] → Behind m
     none-starts w true q n done h = behind-none _ h
     none-starts w false q n t h = true-false n
 
-    none-off : (w : ℕ) (b : Bool) → eqb w 0 ≡ b → {m r : List ℕ} → not b ≡ false → Typed (pick b [] (gap ∷ digits 2 w)) m r → r ≡ [] → readSome m ≡ misfit
+    none-off : (w : ℕ) (b : Bool) → eqb w 0 ≡ b → {m r : List ℕ} → not b ≡ false → Typed (cond b [] (gap ∷ digits 2 w)) m r → r ≡ [] → readSome m ≡ misfit
     none-off w true q n done h = gap-off _ _ h
     none-off w false q n t h = true-false n
 
-    none-within : (w : ℕ) (b : Bool) → not b ≡ false → inline (pick b [] (gap ∷ digits 2 w)) ≡ true
+    none-within : (w : ℕ) (b : Bool) → not b ≡ false → inline (cond b [] (gap ∷ digits 2 w)) ≡ true
     none-within w true n = refl
     none-within w false n = true-false n

@@ -2,12 +2,12 @@
 use Prim.Native.Nat.{ℕ, zero, suc, _^_, _<_, _≤_}
 use mathlib.Core.Path.{_≡_, refl}
 use mathlib.Core.List.{List, [], _∷_}
-use mathlib.Core.Bool.{Bool, true, false, _||_}
+use mathlib.Core.Bool.{cond, Bool, true, false, _||_}
 use lib.Dec.{eqb, lit≤}
 use lib.ListN.{length}
 use borrow.Author.Tests.{eqb-true}
 use native.Mathlib.Omega.{arith}
-use Rattle.text.specs.Choice.{pick, headIs, _and_}
+use Rattle.text.specs.Choice.{headIs, _and_}
 use Rattle.text.specs.Piece.{byte, spell}
 use Rattle.text.specs.Read.{Got, readAs, maybeByte}
 use Rattle.text.specs.Numbers.{isDigit}
@@ -35,23 +35,24 @@ side-inner b h = go (eqb b 76) refl (eqb b 67) refl h
     go false e false f k = rw (eqb-true b 82 k)
 
 -- a byte of a side, or none, is a side and back
-there : (b : ℕ) → pick (eqb b 0) true (isSide b) ≡ true → (sideOf b ≤ 3) × (sideByte (sideOf b) ≡ b)
+there : (b : ℕ) → cond (eqb b 0) true (isSide b) ≡ true → (sideOf b ≤ 3) × (sideByte (sideOf b) ≡ b)
 there b h = go (eqb b 0) refl (eqb b 76) refl (eqb b 67) refl h
   where
-    go : (z : Bool) → eqb b 0 ≡ z → (t : Bool) → eqb b 76 ≡ t → (u : Bool) → eqb b 67 ≡ u → pick z true (t || (u || eqb b 82)) ≡ true → (sideOf b ≤ 3) × (sideByte (sideOf b) ≡ b)
+    go : (z : Bool) → eqb b 0 ≡ z → (t : Bool) → eqb b 76 ≡ t → (u : Bool) → eqb b 67 ≡ u → cond z true (t || (u || eqb b 82)) ≡ true
+        → (sideOf b ≤ 3) × (sideByte (sideOf b) ≡ b)
     go true q t e u f k = rw (eqb-true b 0 q) (lit≤ tt, refl)
     go false q true e u f k = rw (eqb-true b 76 e) (lit≤ tt, refl)
     go false q false e true f k = rw (eqb-true b 67 f) (lit≤ tt, refl)
     go false q false e false f k = rw (eqb-true b 82 k) (lit≤ tt, refl)
 
-back : (s : ℕ) → s ≤ 3 → (pick (eqb (sideByte s) 0) true (isSide (sideByte s)) ≡ true) × (sideOf (sideByte s) ≡ s)
+back : (s : ℕ) → s ≤ 3 → (cond (eqb (sideByte s) 0) true (isSide (sideByte s)) ≡ true) × (sideOf (sideByte s) ≡ s)
 back zero h = (refl, refl)
 back (suc zero) h = (refl, refl)
 back (suc (suc zero)) h = (refl, refl)
 back (suc (suc (suc zero))) h = (refl, refl)
 back (suc (suc (suc (suc s)))) h = absurd (omega arith)
 
-same : (s : ℕ) → s ≤ 3 → pick (eqb (sideByte s) 0) [] (byte (sideByte s) ∷ []) ≡ spell (sideName s)
+same : (s : ℕ) → s ≤ 3 → cond (eqb (sideByte s) 0) [] (byte (sideByte s) ∷ []) ≡ spell (sideName s)
 unfolding spell
 same zero h = refl
 same (suc zero) h = refl

@@ -1,6 +1,6 @@
 use Rattle.text.specs.Laws.Tests.{tests}
 use mathlib.Core.Path.{sym, ap, _∙_}
-use Rattle.surface.specs.Assess.{assessing, taken}
+use Rattle.surface.specs.Assess.{assessing, assessedAs}
 use borrow.Author.Needs.{needs}
 use Rattle.surface.proofs.assess.Statement.{statement}
 use Rattle.surface.proofs.assess.Tie as tie
@@ -24,7 +24,7 @@ returns-2 c =
     let c₁ = c .before in
     let c₂ = c₁ .before in
     rw (sym (c₂ .before .before .in-range .ensures) ∙ c₂ .before .if1 .taken, sym (c₂ .contradictory .ensures) ∙ c₁ .if2 .left)
-    (ap taken (c .assessed .ensures))
+    (ap assessedAs (c .assessed .ensures))
 
 returns-3 : tie.Need-returns-3
 unfolding assessing

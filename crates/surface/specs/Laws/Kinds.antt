@@ -6,7 +6,8 @@ use lib.Dec.{eqb}
 use borrow.Author.Tests.{eqb-true, eqb-false, leb-true}
 use native.Mathlib.Omega.{arith}
 use Rattle.text.specs.Laws.Base.{and-1, and-2}
-use Rattle.surface.specs.Descriptions.{compactedSnow, drySnow, drySnowOnCompactedSnow, drySnowOnIce, frost, ice, slush, standingWater, waterOnCompactedSnow, wet, wetIce, wetSnow, wetSnowOnCompactedSnow, wetSnowOnIce, dry}
+use Rattle.surface.specs.Descriptions.{compactedSnow, drySnow, drySnowOnCompactedSnow, drySnowOnIce, frost, ice, slush, standingWater}
+use Rattle.surface.specs.Descriptions.{waterOnCompactedSnow, wet, wetIce, wetSnow, wetSnowOnCompactedSnow, wetSnowOnIce, dry}
 use Rattle.surface.specs.Assess.{isKind}
 
 -- P of count numbers from n on
@@ -41,8 +42,34 @@ pub record Each (P : ℕ → Type 0) : Type 0 where
   pub of-dry : P dry
 
 in-turn : {P : ℕ → Type 0} → Each P → AllFrom P 1 15
-in-turn e =
-    (e .of-compacted-snow, (e .of-dry-snow, (e .of-dry-snow-on-compacted-snow, (e .of-dry-snow-on-ice, (e .of-frost, (e .of-ice, (e .of-slush, (e .of-standing-water, (e .of-water-on-compacted-snow, (e .of-wet, (e .of-wet-ice, (e .of-wet-snow, (e .of-wet-snow-on-compacted-snow, (e .of-wet-snow-on-ice, (e .of-dry, tt)))))))))))))))
+in-turn e = (
+  e .of-compacted-snow,
+  (
+    e .of-dry-snow,
+    (
+      e .of-dry-snow-on-compacted-snow,
+      (
+        e .of-dry-snow-on-ice,
+        (
+          e .of-frost,
+          (
+            e .of-ice,
+            (
+              e .of-slush,
+              (
+                e .of-standing-water,
+                (
+                  e .of-water-on-compacted-snow,
+                  (e .of-wet, (e .of-wet-ice, (e .of-wet-snow, (e .of-wet-snow-on-compacted-snow, (e .of-wet-snow-on-ice, (e .of-dry, tt)))))),
+                ),
+              ),
+            ),
+          ),
+        ),
+      ),
+    ),
+  ),
+)
 
 pub every-kind : (P : ℕ → Type 0) → Each P → (k : ℕ) → isKind k ≡ true → P k
 unfolding isKind

@@ -1,12 +1,12 @@
 -- What the assessor reports is a third that a row may hold, and its code agrees with Table 1.
 use Prim.Native.Nat.{ℕ, _≤_}
 use mathlib.Core.Path.{_≡_, refl, sym, _∙_}
-use mathlib.Core.Bool.{not, Bool, true, false}
+use mathlib.Core.Bool.{cond, not, Bool, true, false}
 use mathlib.Core.List.{List, [], _∷_}
 use lib.Dec.{eqb, leb, ltb}
 use borrow.Author.Tests.{leb-true, leb-false, le-leb, eqb-true, eqb-false, eq-eqb, ltb-false, lt-ltb, not-true}
 use native.Mathlib.Omega.{arith}
-use Rattle.text.specs.Choice.{pick, _and_, all}
+use Rattle.text.specs.Choice.{_and_, all}
 use Rattle.text.specs.Laws.Base.{and-1, and-2, and-i}
 use Rattle.surface.specs.declared.Third.{Third}
 use Rattle.surface.specs.declared.Observation.{Observation}
@@ -16,11 +16,12 @@ use Rattle.surface.specs.declared.Condition.the-variants.{Always, NotSli
 use Rattle.surface.specs.Descriptions.{notReported, standingWater, wet, wetSnowOnIce, dry, isContaminant, isDeep}
 use Rattle.surface.specs.Third.{third, blankThird, isCode, isCoverage, validCoverage, leastDepth, isReported, validDepth, validThird, greatestDepth}
 use Rattle.surface.specs.Table1.{table1, code, kind, condition, isShallow, holds, isFor, firstFitting, canHold, allows, agrees}
-use Rattle.surface.specs.Assess.{isKind, inRange, coveredDry, contradictory, coverageFor, uncovered, isThinWater, reportedKind, reportedDepth, covered, assessed, assessing, leastCover, taken, refused}
+use Rattle.surface.specs.Assess.{isKind, inRange, coveredDry, contradictory, coverageFor, uncovered, isThinWater, reportedKind, reportedDepth}
+use Rattle.surface.specs.Assess.{covered, assessed, assessing, leastCover, assessedAs, refusedAssessing}
 use Rattle.text.specs.Refusals.{outOfRange, contradiction}
 use Rattle.surface.specs.Laws.OneLine.{counted, howMany, isThin, one-line}
 
-either : (t : Bool) {b : Bool} → b ≡ true → pick t true b ≡ true
+either : (t : Bool) {b : Bool} → b ≡ true → cond t true b ≡ true
 either true h = refl
 either false h = h
 
@@ -30,7 +31,7 @@ least : (k : ℕ) → leastDepth k ≤ 4
 unfolding leastDepth
 least k = go (eqb k standingWater)
   where
-    go : (t : Bool) → pick t 4 3 ≤ 4
+    go : (t : Bool) → cond t 4 3 ≤ 4
     go true = omega arith
     go false = omega arith
 
@@ -47,7 +48,7 @@ shallow-stays : (k d : ℕ) → isShallow d ≡ true → isShallow (reportedDept
 unfolding reportedDepth
 shallow-stays k d h = go (isReported k d)
   where
-    go : (t : Bool) → isShallow (pick t d notReported) ≡ true
+    go : (t : Bool) → isShallow (cond t d notReported) ≡ true
     go true = h
     go false = nothing
 
@@ -60,13 +61,14 @@ valid-depth : (k d code coverage : ℕ) → leb d greatestDepth ≡ true → val
 unfolding validDepth reportedDepth
 valid-depth k d code coverage h = go (isReported k d) refl
   where
-    go : (t : Bool) → isReported k d ≡ t → pick (eqb (pick t d notReported) notReported) true (isReported k (pick t d notReported) and leb (pick t d notReported) greatestDepth) ≡ true
+    go : (t : Bool) → isReported k d ≡ t → cond (eqb (cond t d notReported) notReported) true
+        (isReported k (cond t d notReported) and leb (cond t d notReported) greatestDepth) ≡ true
     go true e = either (eqb d notReported) (and-i e h)
     go false e = refl
 
 -- ---- coverage
 
-a-coverage : (x y z : Bool) → isCoverage (pick x 25 (pick y 50 (pick z 75 100))) ≡ true
+a-coverage : (x y z : Bool) → isCoverage (cond x 25 (cond y 50 (cond z 75 100))) ≡ true
 unfolding isCoverage
 a-coverage true y z = refl
 a-coverage false true z = refl
@@ -108,7 +110,8 @@ still Cold k o s h = refl
 still Milder k o s h = refl
 
 -- the line that gave the code allows it
-allowed-there : (l : Entry) (k coverage : ℕ) (o : Observation) → isSound l ≡ true → isFor l k o ≡ true → allows l (third (code l) coverage (reportedDepth k (o .depth)) k) ≡ true
+allowed-there : (l : Entry) (k coverage : ℕ) (o : Observation) → isSound l ≡ true → isFor l k o ≡ true
+    → allows l (third (code l) coverage (reportedDepth k (o .depth)) k) ≡ true
 unfolding isSound isFor allows
 allowed-there l k coverage o s f =
     let same = eqb-true (kind l) k (and-1 _ _ f) in
@@ -133,9 +136,10 @@ module _ (k : ℕ) (o : Observation) where
   given-allowed coverage (l ∷ ls) s one = go (isFor l k o) refl one (given-allowed coverage ls (and-2 _ _ s))
     where
       now : Bool → Third
-      now t = reported coverage (pick t (code l) (given ls))
+      now t = reported coverage (cond t (code l) (given ls))
 
-      go : (t : Bool) → isFor l k o ≡ t → counted t (howMany ls k o) ≡ 1 → (howMany ls k o ≡ 1 → allowedIn ls (now false) ≡ true) → pick (allows l (now t)) true (allowedIn ls (now t)) ≡ true
+      go : (t : Bool) → isFor l k o ≡ t → counted t (howMany ls k o) ≡ 1 → (howMany ls k o ≡ 1 → allowedIn ls (now false) ≡ true)
+          → cond (allows l (now t)) true (allowedIn ls (now t)) ≡ true
       go true f one later = rw (allowed-there l k coverage o (and-1 _ _ s) f)
       go false f one later = either (allows l (now false)) (later one)
 
@@ -144,7 +148,7 @@ module _ (k : ℕ) (o : Observation) where
   given-code [] s = refl
   given-code (l ∷ ls) s = go (isFor l k o) (and-2 _ _ (and-1 _ _ s)) (given-code ls (and-2 _ _ s))
     where
-      go : (t : Bool) → isCode (code l) ≡ true → isCode (given ls) ≡ true → isCode (pick t (code l) (given ls)) ≡ true
+      go : (t : Bool) → isCode (code l) ≡ true → isCode (given ls) ≡ true → isCode (cond t (code l) (given ls)) ≡ true
       go true here later = here
       go false here later = later
 
@@ -160,7 +164,7 @@ unfolding _and_
 not-both true b h q = sym q ∙ h
 not-both false b h q = refl
 
-not-first : (t b : Bool) → pick t true b ≡ false → t ≡ false
+not-first : (t b : Bool) → cond t true b ≡ false → t ≡ false
 not-first true b h = h
 not-first false b h = refl
 
@@ -185,7 +189,7 @@ reportable : (o : Observation) → isKind (o .kind) ≡ true → eqb (o .kind) d
 unfolding reportedKind
 reportable o h n = go (isThinWater o) refl
   where
-    go : (t : Bool) → isThinWater o ≡ t → Reportable o (pick t wet (o .kind))
+    go : (t : Bool) → isThinWater o ≡ t → Reportable o (cond t wet (o .kind))
     go true e = a-wet o
     go false e = record { known = h; contaminant = a-contaminant (o .kind) h n; deeper = not-thin o e }
 
@@ -199,11 +203,12 @@ covered-right : (o : Observation) (k : ℕ) → Reportable o k → leb (o .depth
 unfolding isKind validThird agrees covered
 covered-right o k r d =
     record {
-      valid = and-i (given-code k o table1 all-sound) (and-i (and-2 _ _ (r .known)) (and-i (valid-coverage k (o .cover) _ _ (r .contaminant)) (valid-depth k (o .depth) _ _ d)));
+      valid = and-i (given-code k o table1 all-sound)
+          (and-i (and-2 _ _ (r .known)) (and-i (valid-coverage k (o .cover) _ _ (r .contaminant)) (valid-depth k (o .depth) _ _ d)));
       agreeing = either (eqb k notReported) (given-allowed k o (coverageFor (o .cover)) table1 all-sound (one-line o k (r .known) (r .deeper)));
     }
 
-uncovered-right : (t : Bool) → Right (third 6 notReported notReported (pick t dry notReported))
+uncovered-right : (t : Bool) → Right (third 6 notReported notReported (cond t dry notReported))
 unfolding _and_ validCoverage validDepth validThird table1 canHold allows firstFitting agrees
 uncovered-right true = record { valid = refl; agreeing = refl }
 uncovered-right false = record { valid = refl; agreeing = refl }
@@ -215,7 +220,7 @@ assessed-right o r n = go (ltb (o .cover) leastCover) refl
     depth : leb (o .depth) greatestDepth ≡ true
     depth = and-1 _ _ (and-2 _ _ (and-2 _ _ r))
 
-    go : (t : Bool) → ltb (o .cover) leastCover ≡ t → Right (pick t (uncovered (o .kind)) (covered (reportedKind o) o))
+    go : (t : Bool) → ltb (o .cover) leastCover ≡ t → Right (cond t (uncovered (o .kind)) (covered (reportedKind o) o))
     go true e = uncovered-right (eqb (o .kind) dry)
     go false e = covered-right o (reportedKind o) (reportable o (and-1 _ _ r) (not-dry o n e)) depth
 
@@ -228,7 +233,8 @@ pub right : (o : Observation) → Right (assessing o .third)
 unfolding assessing
 right o = go (inRange o) refl (contradictory o) refl
   where
-    go : (t : Bool) → inRange o ≡ t → (u : Bool) → contradictory o ≡ u → Right ((pick t (pick (not u) (taken (assessed o)) (refused contradiction)) (refused outOfRange)) .third)
+    go : (t : Bool) → inRange o ≡ t → (u : Bool) → contradictory o ≡ u
+        → Right ((cond t (cond (not u) (assessedAs (assessed o)) (refusedAssessing contradiction)) (refusedAssessing outOfRange)) .third)
     go true r true n = blank-right
     go true r false n = assessed-right o r n
     go false r u n = blank-right

@@ -9,7 +9,8 @@ use Rattle.text.specs.Laws.Put.{canonical-append}
 pub under-append : (pss qss : List (List Piece)) → under (pss ++ qss) ≡ under pss ++ under qss
 unfolding under
 under-append [] qss = refl
-under-append (ps ∷ pss) qss = ap (λ (l : List ℕ). 10 ∷ l) (ap (λ (l : List ℕ). canonical ps ++ l) (under-append pss qss) ∙ sym (append-assoc (canonical ps) (under pss) (under qss)))
+under-append (ps ∷ pss) qss = ap (λ (l : List ℕ). 10 ∷ l)
+    (ap (λ (l : List ℕ). canonical ps ++ l) (under-append pss qss) ∙ sym (append-assoc (canonical ps) (under pss) (under qss)))
 
 pub ended-under : (ps : List Piece) (pss : List (List Piece)) → canonical (ended (ps ∷ pss)) ≡ canonical ps ++ (under pss ++ (41 ∷ 10 ∷ []))
 unfolding ended under

@@ -2,10 +2,9 @@
 use Prim.Native.Nat.{ℕ, _<_, _≤_}
 use mathlib.Core.Path.{_≡_, refl, subst}
 use mathlib.Core.List.{List, [], _∷_}
-use mathlib.Core.Bool.{Bool, true, false}
+use mathlib.Core.Bool.{cond, Bool, true, false}
 use lib.Dec.{lit<, lit≤}
 use native.Mathlib.Omega.{arith}
-use Rattle.text.specs.Choice.{pick}
 use Rattle.text.specs.Read.{Got, misfit, got, whole}
 use Rattle.text.specs.Out.{Out, refuse, taken, next, fit, readLine, atEnd}
 
@@ -48,7 +47,8 @@ pub fit-numbered : {A B : Type 0} {n : ℕ} (g : Got A) (f : A → Out B) → (0
 fit-numbered misfit f h k = h
 fit-numbered (got a r) f h k = k a
 
-pub line-numbered : {A B : Type 0} {n : ℕ} (f : List ℕ → Got A) (ls : List (List ℕ)) (k : A → List (List ℕ) → Out B) → (0 < n) × (n ≤ 12) → ((a : A) (ls : List (List ℕ)) → Numbered (k a ls)) → Numbered (readLine n f ls k)
+pub line-numbered : {A B : Type 0} {n : ℕ} (f : List ℕ → Got A) (ls : List (List ℕ)) (k : A → List (List ℕ) → Out B) → (0 < n) × (n ≤ 12)
+    → ((a : A) (ls : List (List ℕ)) → Numbered (k a ls)) → Numbered (readLine n f ls k)
 line-numbered f [] k h i = h
 line-numbered f (l ∷ ls) k h i = fit-numbered (whole (f l)) (λ a. k a ls) h (λ a. i a ls)
 
@@ -56,9 +56,9 @@ pub next-numbered : {A B : Type 0} (o : Out A) (f : A → Out B) → Numbered o 
 next-numbered (refuse n) f h k = h
 next-numbered (taken a) f h k = k a
 
-pub pick-numbered : {A : Type 0} (b : Bool) (x y : Out A) → Numbered x → Numbered y → Numbered (pick b x y)
-pick-numbered true x y h k = h
-pick-numbered false x y h k = k
+pub cond-numbered : {A : Type 0} (b : Bool) (x y : Out A) → Numbered x → Numbered y → Numbered (cond b x y)
+cond-numbered true x y h k = h
+cond-numbered false x y h k = k
 
 pub end-numbered : {A : Type 0} (ls : List (List ℕ)) (a : A) → Numbered (atEnd ls a)
 end-numbered [] a = tt

@@ -50,7 +50,8 @@ module _ (p : ℕ → Bool) (m : List ℕ) (j : ℕ) where
         go n e = rw (e, add-one, drop-cons m j 0 h, q) (again (readCount p n (drop (suc j) m)))
 
 -- one byte more of a block
-pub block-more : (p : ℕ → Bool) (m : List ℕ) (i k : ℕ) → i + k < length m → all p (take (k + 1) (drop i m)) ≡ (all p (take k (drop i m)) and p (getD m (i + k) 0))
+pub block-more : (p : ℕ → Bool) (m : List ℕ) (i k : ℕ) → i + k < length m
+    → all p (take (k + 1) (drop i m)) ≡ (all p (take k (drop i m)) and p (getD m (i + k) 0))
 block-more p m i k h =
     let l : k < length (drop i m) = omega (arith, length-drop i m) in
     rw (add-one, take-suc (drop i m) k 0 l, getD-drop i m k 0) (all-last p (take k (drop i m)) (getD m (i + k) 0))
@@ -75,7 +76,8 @@ block-past p zero m h a = refl
 block-past p (suc n) [] h a = absurd (omega arith)
 block-past p (suc n) (x ∷ m) h a = rw (and-1 _ _ a) (block-past p n m (omega arith) (and-2 _ _ a))
 
-pub past-block : (p : ℕ → Bool) (s : List ℕ) (j n : ℕ) {k : List ℕ} → j ≤ length s → past p (drop j s) ≡ k → startsWith n p (drop j s) ≡ true → (j + n ≤ length s) × (past p (drop (j + n) s) ≡ k)
+pub past-block : (p : ℕ → Bool) (s : List ℕ) (j n : ℕ) {k : List ℕ} → j ≤ length s → past p (drop j s) ≡ k → startsWith n p (drop j s) ≡ true
+    → (j + n ≤ length s) × (past p (drop (j + n) s) ≡ k)
 past-block p s j n h e b =
     let w = block-there p n (drop j s) b in
     (omega (arith, w .0, length-drop j s), ap (past p) (sym (drop-drop n j s)) ∙ sym (block-past p n (drop j s) (w .0) (w .1)) ∙ e)

@@ -2,10 +2,10 @@
 use Prim.Native.Nat.{ℕ, _≤_}
 use mathlib.Core.Path.{_≡_, refl, sym, _∙_, ap}
 use mathlib.Core.List.{List, [], _∷_, _++_}
-use mathlib.Core.Bool.{Bool, true, false}
+use mathlib.Core.Bool.{cond, Bool, true, false}
 use lib.ListN.{length, take, drop}
 use lib.Seq.{take-all}
-use Rattle.text.specs.Choice.{pick, all, headIs}
+use Rattle.text.specs.Choice.{all, headIs}
 use Rattle.text.specs.Read.{got, guard, andThen}
 use Rattle.text.specs.Code.Held.{Reached, isGot}
 use Rattle.text.specs.Names.{run, past, readCount}
@@ -21,7 +21,7 @@ module _ (p : ℕ → Bool) where
   run-past [] = refl
   run-past (x ∷ f) = go (p x) (run-past f)
     where
-      go : (t : Bool) → run p f ++ past p f ≡ f → pick t (x ∷ run p f) [] ++ pick t (past p f) (x ∷ f) ≡ x ∷ f
+      go : (t : Bool) → run p f ++ past p f ≡ f → cond t (x ∷ run p f) [] ++ cond t (past p f) (x ∷ f) ≡ x ∷ f
       go true h = ap (λ k. x ∷ k) h
       go false h = refl
 
@@ -31,7 +31,7 @@ module _ (p : ℕ → Bool) where
   run-in [] = refl
   run-in (x ∷ f) = go (p x) refl (run-in f)
     where
-      go : (t : Bool) → p x ≡ t → all p (run p f) ≡ true → all p (pick t (x ∷ run p f) []) ≡ true
+      go : (t : Bool) → p x ≡ t → all p (run p f) ≡ true → all p (cond t (x ∷ run p f) []) ≡ true
       go true e h = and-i e h
       go false e h = refl
 
@@ -55,7 +55,8 @@ module _ (p : ℕ → Bool) where
 
   module _ (f : List ℕ) {n : ℕ} (h : Reached f (past p f) n) where
     run-end : n ≡ length (run p f)
-    run-end = one-place f n (length (run p f)) (h .within) (run-size p f) (h .left ∙ sym (ap (drop (length (run p f))) (sym (run-past f)) ∙ drop-front (run p f) (past p f)))
+    run-end = one-place f n (length (run p f)) (h .within) (run-size p f)
+        (h .left ∙ sym (ap (drop (length (run p f))) (sym (run-past f)) ∙ drop-front (run p f) (past p f)))
 
     -- the bytes before its end
     pub run-taken : take n f ≡ run p f

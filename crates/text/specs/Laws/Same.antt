@@ -41,7 +41,8 @@ module _ {A : Type 0} (p : A → A → Bool) where
     unfolding _and_
     same-off h k e = rw (drop-cons a i z h, drop-cons b i z k, e)
 
-    pub same-on : i < length a → i < length b → p (getD a i z) (getD b i z) ≡ true → sameAll p (drop i a) (drop i b) ≡ sameAll p (drop (i + 1) a) (drop (i + 1) b)
+    pub same-on : i < length a → i < length b → p (getD a i z) (getD b i z) ≡ true
+        → sameAll p (drop i a) (drop i b) ≡ sameAll p (drop (i + 1) a) (drop (i + 1) b)
     unfolding _and_
     same-on h k e = rw (add-one i, drop-cons a i z h, drop-cons b i z k, e)
 

@@ -2,8 +2,8 @@
 use Prim.Native.Nat.{ℕ}
 use mathlib.Core.Path.{_≡_, refl, subst, _∙_, ap}
 use mathlib.Core.List.{List, [], _∷_, _++_}
-use mathlib.Core.Bool.{true, false}
-use Rattle.text.specs.Choice.{pick, isEmpty}
+use mathlib.Core.Bool.{cond, true, false}
+use Rattle.text.specs.Choice.{isEmpty}
 use Rattle.text.specs.Piece.{Piece, Typed, Typing}
 use Rattle.text.specs.Read.{Got}
 use Rattle.text.specs.Lines.{closed, allButLast, lineText}
@@ -18,10 +18,11 @@ Follows (more ls) pss = (qss : List (List Piece)) × (pss ≡ [] ∷ qss) × Tel
 
 -- a closed line is told by its text, and so is an open one
 pub closed-tells : {ps : List Piece} (l : List ℕ) {ls : List (List ℕ)} → closed l ≡ true → ls ≡ [] → Typing ps (lineText l) → Tells (ps ∷ []) (l ∷ ls)
-closed-tells {ps} l q e t = rw e (final (closed-is l q) (subst (λ b. Typed ps (pick b (allButLast l) l) []) q t))
+closed-tells {ps} l q e t = rw e (final (closed-is l q) (subst (λ b. Typed ps (cond b (allButLast l) l) []) q t))
 
-pub open-tells : {ps : List Piece} {pss : List (List Piece)} (l : List ℕ) {ls : List (List ℕ)} → closed l ≡ false → Typing ps (lineText l) → Tells pss ls → Tells (ps ∷ pss) (l ∷ ls)
-open-tells {ps} l q t u = and-next (subst (λ b. Typed ps (pick b (allButLast l) l) []) q t) u
+pub open-tells : {ps : List Piece} {pss : List (List Piece)} (l : List ℕ) {ls : List (List ℕ)} → closed l ≡ false → Typing ps (lineText l) → Tells pss ls
+    → Tells (ps ∷ pss) (l ∷ ls)
+open-tells {ps} l q t u = and-next (subst (λ b. Typed ps (cond b (allButLast l) l) []) q t) u
 
 -- the other way: a told line is the last, or another follows
 pub data Told (ps : List Piece) (tail : List (List Piece)) (ls : List (List ℕ)) : Type 0 where
@@ -49,8 +50,8 @@ pub opened-closed : (l k : List ℕ) → k ≡ l ++ (41 ∷ []) → (closed k �
 opened-closed l k e =
     let h = closed-on l in
     let c : closed k ≡ true = ap closed e ∙ h .0 in
-    (c, ap (λ b. pick b (allButLast k) k) c ∙ (ap allButLast e ∙ h .1))
+    (c, ap (λ b. cond b (allButLast k) k) c ∙ (ap allButLast e ∙ h .1))
 
 pub opened-open : {A : Type 0} {v : A → Type 0} {lay : A → List Piece} {rd : List ℕ → Got A} {s f : List ℕ → Type 0} → Laws v lay rd s f
     → (a : A) {l : List ℕ} → v a → Typing (lay a) l → (closed l ≡ false) × (lineText l ≡ l)
-opened-open F a {l} w t = let c = closed-off l (typed-clean (F .within a w) t) in (c, ap (λ b. pick b (allButLast l) l) c)
+opened-open F a {l} w t = let c = closed-off l (typed-clean (F .within a w) t) in (c, ap (λ b. cond b (allButLast l) l) c)

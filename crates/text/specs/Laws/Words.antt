@@ -35,6 +35,7 @@ first-cut p [] m = go (readText p m)
     go (got a k) = refl
 first-cut p (t ∷ ts) m = rw (first-cut p ts m, word-cut p (t .0) (t .1) m) (go (readText p m))
   where
-    go : (g : Got (Unit {0})) → orElse (andThen g (λ _ k. readWord (t .0) (t .1) k)) (andThen g (λ _ k. readFirst ts k)) ≡ andThen g (λ _ k. readFirst (t ∷ ts) k)
+    go : (g : Got (Unit {0})) → orElse (andThen g (λ _ k. readWord (t .0) (t .1) k)) (andThen g (λ _ k. readFirst ts k))
+        ≡ andThen g (λ _ k. readFirst (t ∷ ts) k)
     go misfit = refl
     go (got a k) = refl

@@ -2,10 +2,9 @@
 use Prim.Native.Nat.{ℕ, _≤_}
 use mathlib.Core.Path.{_≡_}
 use mathlib.Core.List.{List}
-use mathlib.Core.Bool.{Bool, false}
+use mathlib.Core.Bool.{cond, Bool, false}
 use lib.ListN.{length, drop}
 use lib.Dec.{eqb}
-use Rattle.text.specs.Choice.{pick}
 use Rattle.text.specs.Piece.{bytes}
 use Rattle.text.specs.Read.{Got, misfit, got, guard, orElse}
 use Rattle.text.specs.Code.Held.{Held}
@@ -24,8 +23,8 @@ trio r = (r .one, r .two, r .three)
 -- the answer r is the reading g of a part of m; a misfit is all zero
 pub record HeldThree (m : List ℕ) (g : Got Three) (r : Trio) : Type 0 where
   pub within : r .next ≤ length m
-  pub says : g ≡ pick (r .fits) (got (trio r) (drop (r .next) m)) misfit
-  pub blank : r ≡ pick (r .fits) r noTrio
+  pub says : g ≡ cond (r .fits) (got (trio r) (drop (r .next) m)) misfit
+  pub blank : r ≡ cond (r .fits) r noTrio
 
 -- after the answer f, the answer r: where f is the reading g, r is the reading g or else h
 pub record Tried (m : List ℕ) (f : Found) (h : Got ℕ) (r : Found) : Type 0 where
@@ -37,4 +36,4 @@ pub record Kept (f : Found) (test : Bool) (r : Found) : Type 0 where
 
 -- what parts a third of a group from what stands before it: a gap the first, `/` each other
 abbrev pub jointText : ℕ → List ℕ
-jointText third = pick (eqb third 0) (bytes " ") (bytes "/")
+jointText third = cond (eqb third 0) (bytes " ") (bytes "/")

@@ -2,11 +2,10 @@
 use Prim.Native.Nat.{ℕ, _<_, _^_}
 use mathlib.Core.Path.{_≡_, refl, sym, _∙_, ap}
 use mathlib.Core.List.{List, [], _∷_}
-use mathlib.Core.Bool.{Bool, true, false}
+use mathlib.Core.Bool.{cond, Bool, true, false}
 use lib.Dec.{leb}
 use borrow.Author.Tests.{leb-true, leb-false}
 use native.Mathlib.Omega.{arith}
-use Rattle.text.specs.Choice.{pick}
 use Rattle.text.specs.Piece.{bytes, Typed}
 use Rattle.text.specs.Read.{Got, misfit, got, readSeq, readAs, readAfter, readText}
 use Rattle.text.specs.Numbers.{isDigit, digits, number}
@@ -62,7 +61,7 @@ digit-or-letter (x ∷ m) h k =
 number-head : (x : ℕ) {m r : List ℕ} → x < 10 ^ 3 → Typed (number 2 x) m r → Head isDigit m
 number-head x {m} {r} h t = go (leb 100 x) refl t
   where
-    go : (b : Bool) → leb 100 x ≡ b → Typed (pick b (digits 3 x) (digits 2 x)) m r → Head isDigit m
+    go : (b : Bool) → leb 100 x ≡ b → Typed (cond b (digits 3 x) (digits 2 x)) m r → Head isDigit m
     go true e t = digits-laws 2 .starts x h t tt
     go false e t = digits-laws 1 .starts x (leb-false 100 x e) t tt
 
@@ -70,7 +69,8 @@ coverage-description : Alike (readThird coverages) (readThird descriptions)
 unfolding readThird readCoverage readMeasure readDescription readName
 coverage-description = record { same = λ {m} p q. go m (readText (bytes "NR") m) refl p q }
   where
-    go : (m : List ℕ) (g : Got (Unit {0})) → readText (bytes "NR") m ≡ g → {a b : ℕ} {r s : List ℕ} → readCoverage m ≡ got a r → readDescription m ≡ got b s → r ≡ s
+    go : (m : List ℕ) (g : Got (Unit {0})) → readText (bytes "NR") m ≡ g → {a b : ℕ} {r s : List ℕ} → readCoverage m ≡ got a r → readDescription m ≡ got b s
+        → r ≡ s
     go m misfit e p q =
         let x = if-laws (if-laws (number-laws 1) (λ x. leb 1 x)) (λ x. leb x 100) .sound {m = m} (rw e at p) in
         digit-or-letter m (number-head _ (x .0 .0 .0) (x .1)) (description-head m q)

@@ -2,11 +2,11 @@
 use Prim.Native.Nat.{ℕ, _≤_}
 use mathlib.Core.Path.{_≡_, refl, sym, _∙_, subst}
 use mathlib.Core.List.{List, [], _∷_}
-use mathlib.Core.Bool.{Bool, true, false, _||_}
+use mathlib.Core.Bool.{cond, Bool, true, false, _||_}
 use lib.Dec.{eqb, leb, lit≤}
 use borrow.Author.Tests.{eqb-true, eqb-false, ne-eqb, leb-true, le-leb}
 use native.Mathlib.Omega.{arith}
-use Rattle.text.specs.Choice.{pick, _and_, headIs, all, member}
+use Rattle.text.specs.Choice.{_and_, headIs, all, member}
 use Rattle.text.specs.Piece.{Piece, Typed, spell, bytes, words}
 use Rattle.text.specs.Read.{Got, misfit, got, skip, readText, readWord}
 use Rattle.text.specs.Numbers.{isDigit, number}
@@ -16,7 +16,8 @@ use Rattle.text.specs.Laws.Combine.{seq-laws, as-laws, after-laws, gap-laws, Ga
 use Rattle.text.specs.Laws.Numbers.{digits-laws, number-laws}
 use Rattle.text.specs.Laws.Names.{name-laws, good, wordOn, wordNext, on-misfit, no-word, all-at, spell-head}
 use Rattle.surface.specs.Descriptions.{dry, descriptionName}
-use Rattle.thirds.specs.Groups.{codes, coverages, depths, descriptions, measurePieces, readMeasure, readCoverage, descriptionPieces, descriptionOrder, readDescription, thirdPieces, readThird, highest, Three, joined, readThree, groupPieces, readGroup}
+use Rattle.thirds.specs.Groups.{codes, coverages, depths, descriptions, measurePieces, readMeasure, readCoverage, descriptionPieces, descriptionOrder}
+use Rattle.thirds.specs.Groups.{readDescription, thirdPieces, readThird, highest, Three, joined, readThree, groupPieces, readGroup}
 
 -- each of three numbers can be shown in a group
 abbrev pub Shown : ℕ → Three → Type 0
@@ -81,7 +82,7 @@ measure-laws = or-laws (λ x. eqb x 0)
     (loosen (relay (revalid (if-laws (number-laws 1) (λ x. leb 1 x)) (λ x. (x ≤ 999) × (eqb x 0 ≡ false))
     (λ x h. let k = leb-true 1 x (h .1) in (omega arith, ne-eqb x 0 (omega arith)))
     (λ x h. let k = eqb-false x 0 (h .1) in (omega arith, le-leb 1 x (omega arith)))) measurePieces (λ x v. rw (v .1))) digit-name (λ m h. h))
-    (λ x m r v c t h. miss m (number-laws 1 .starts x (omega arith) (subst (λ b. Typed (pick b (words "NR") (number 2 x)) m r) c t) h))
+    (λ x m r v c t h. miss m (number-laws 1 .starts x (omega arith) (subst (λ b. Typed (cond b (words "NR") (number 2 x)) m r) c t) h))
   where
     miss : (m : List ℕ) → Head isDigit m → readWord (bytes "NR") 0 m ≡ misfit
     miss [] h = refl

@@ -2,9 +2,8 @@
 use Prim.Native.Nat.{ℕ}
 use mathlib.Core.Path.{_≡_, _∙_, ap}
 use mathlib.Core.List.{List}
-use mathlib.Core.Bool.{Bool, true, false}
+use mathlib.Core.Bool.{cond, Bool, true, false}
 use lib.ListN.{drop}
-use Rattle.text.specs.Choice.{pick}
 use Rattle.text.specs.Read.{Got, misfit, got}
 use Rattle.text.specs.Laws.Held.{Told, told-one}
 use Rattle.thirds.specs.Groups.{Three}
@@ -13,10 +12,10 @@ use Rattle.thirds.specs.declared.Trio.{Trio}
 
 module _ {m : List ℕ} {g : Got Three} {r : Trio} (h : HeldThree m g r) where
   pub three-got : r .fits ≡ true → g ≡ got (trio r) (drop (r .next) m)
-  three-got x = h .says ∙ ap (λ (b : Bool). pick b (got (trio r) (drop (r .next) m)) misfit) x
+  three-got x = h .says ∙ ap (λ (b : Bool). cond b (got (trio r) (drop (r .next) m)) misfit) x
 
   pub three-misfit : r .fits ≡ false → g ≡ misfit
-  three-misfit x = h .says ∙ ap (λ (b : Bool). pick b (got (trio r) (drop (r .next) m)) misfit) x
+  three-misfit x = h .says ∙ ap (λ (b : Bool). cond b (got (trio r) (drop (r .next) m)) misfit) x
 
 -- the promise of reading a group leaves no choice
 pub three-one : {m : List ℕ} {g : Got Three} {r s : Trio} → HeldThree m g r → HeldThree m g s → r ≡ s

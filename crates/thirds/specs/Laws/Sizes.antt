@@ -10,14 +10,14 @@ use native.Mathlib.Omega.{arith}
 use Rattle.text.specs.Choice.{_and_}
 use Rattle.text.specs.Piece.{words}
 use Rattle.text.specs.Numbers.{number}
-use Rattle.text.specs.Laws.Sizes.{size, cons-size, append-size, digits-size, number-size, spell-size, pick-size}
+use Rattle.text.specs.Laws.Sizes.{size, cons-size, append-size, digits-size, number-size, spell-size, cond-size}
 use Rattle.text.specs.Laws.Base.{below, below-at}
 use Rattle.surface.specs.Descriptions.{dry, descriptionName}
 use Rattle.thirds.specs.Groups.{codes, coverages, depths, descriptions, measurePieces, descriptionPieces, thirdPieces, Three, groupPieces}
 
 measure-size : (x : ℕ) → size (measurePieces x) ≤ 3
 unfolding measurePieces
-measure-size x = pick-size 3 (eqb x 0) (words "NR") (number 2 x) (rw spell-size (lit≤ tt)) (number-size 2 x)
+measure-size x = cond-size 3 (eqb x 0) (words "NR") (number 2 x) (rw spell-size (lit≤ tt)) (number-size 2 x)
 
 -- past DRY there is no name
 abbrev more : ℕ → ℕ → ℕ
