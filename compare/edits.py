@@ -223,9 +223,10 @@ def bare_tree(root):
     """Writes the libraries without their functions and the proofs of these, to a directory that is not there yet."""
     if root.exists():
         sys.exit(f"{root} is there already")
-    for crate in [name for name in crates(ROOT) if (ROOT / "crates" / name / "specs").is_dir()]:
+    for crate in [name for name in crates(ROOT) if (ROOT / "crates" / name / "src/lib.rt").is_file()]:
         base = pathlib.Path("crates") / crate
-        shutil.copytree(ROOT / base / "specs", root / base / "specs")
+        if (ROOT / base / "specs").is_dir():
+            shutil.copytree(ROOT / base / "specs", root / base / "specs")
         for path in (ROOT / base / "src").rglob("*.rt"):
             copy = root / path.relative_to(ROOT)
             copy.parent.mkdir(parents=True, exist_ok=True)
