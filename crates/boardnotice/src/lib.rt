@@ -28,8 +28,6 @@ pub struct Details {
     pub serial: u16,
 }
 
-// ---- Writing a board
-
 // The rows shown, in board order, zeros behind them.
 fn shown_rows(rows: [Row; 8]) -> Rows
     ensures { λ r. ⌜ r ≡ makeRows (reported rows) ⌝ }
@@ -50,7 +48,7 @@ fn shown_rows(rows: [Row; 8]) -> Rows
 }
 
 // What the notice of a board says; its heading time is worked out where it is written.
-fn record_of(b: Board, d: Details, items: Items, language: Language) -> Record
+fn board_record(b: Board, d: Details, items: Items, language: Language) -> Record
     ensures { λ r. ⌜ r ≡ boardRecord b d items language ⌝ }
 {
     let places = b.rows;
@@ -84,7 +82,7 @@ pub fn write_board(
     ensures { λ w. ⌜ WroteBoard b d items language (now (buffer .entry)) (now (buffer .exit)) w ⌝ }
 {
     if valid_board(b) {
-        let r = record_of(b, d, items, language);
+        let r = board_record(b, d, items, language);
         if r.rows.count == 0 {
             return Written {
                 refusal: refusal::NO_REPORT,

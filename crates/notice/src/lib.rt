@@ -38,6 +38,8 @@ pub struct Written {
     pub length: usize,
 }
 
+// ---- Reading
+
 // Reads a message: 1 first, then line by line, where the first line that does not fit decides; 10, 11, 12 at the end. The parts meet here, so that
 // none is handed on from answer to answer.
 pub fn read(message: &[u8]) -> Reading
@@ -66,6 +68,8 @@ pub fn read(message: &[u8]) -> Reading
     }
     accepted(front, rows, remarks)
 }
+
+// ---- Writing
 
 // How many bytes the text has.
 fn text_size(r: Record) -> usize

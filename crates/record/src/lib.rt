@@ -50,7 +50,7 @@ pub struct Reading {
     pub record: Record,
 }
 
-// ---- Reading
+// ---- The answer to a message
 
 // 10, 11, 12 in that order, or 0 where the lines agree.
 fn mismatch(front: Front, rows: Rows) -> u8
@@ -134,7 +134,7 @@ pub fn accepted(front: Front, rows: Rows, remarks: RemarksRead) -> Reading
     }
 }
 
-// ---- Writing
+// ---- Its rules and its text
 
 // Every part is valid.
 pub fn valid_record(r: Record) -> bool

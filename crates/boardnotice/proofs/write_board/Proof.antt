@@ -7,15 +7,15 @@ use Rattle.boardnotice.proofs.write_board.Tie as tie
 valid-board-requires : tie.Need-valid-board-requires
 valid-board-requires c κs = search needs
 
-record-of-requires : tie.Need-record-of-requires
-record-of-requires c κs = search needs
+board-record-requires : tie.Need-board-record-requires
+board-record-requires c κs = search needs
 
 returns : tie.Need-returns
 returns c =
     let k = c .before .before in
     let g = k .before in
     let a = g .before .before .before .args in
-    wrote-21 (a .b) (a .d) (a .items) (a .language) (sym (g .before .valid-board .ensures) ∙ g .if1 .taken) (k .record-of .ensures) (c .if2 .taken)
+    wrote-21 (a .b) (a .d) (a .items) (a .language) (sym (g .before .valid-board .ensures) ∙ g .if1 .taken) (k .board-record .ensures) (c .if2 .taken)
 
 write-requires : tie.Need-write-requires
 write-requires c κs = search needs
@@ -30,7 +30,7 @@ returns-2 c =
     let k = s .before .before in
     let g = k .before in
     let a = g .before .before .before .args in
-    wrote-record (a .b) (a .d) (a .items) (a .language) (sym (g .before .valid-board .ensures) ∙ g .if1 .taken) (k .record-of .ensures) (s .if2 .left) (w .write .ensures)
+    wrote-record (a .b) (a .d) (a .items) (a .language) (sym (g .before .valid-board .ensures) ∙ g .if1 .taken) (k .board-record .ensures) (s .if2 .left) (w .write .ensures)
 
 returns-3 : tie.Need-returns-3
 returns-3 c = let a = c .before .before .before .args in wrote-17 (a .b) (a .d) (a .items) (a .language) (sym (c .before .valid-board .ensures) ∙ c .if1 .left)
@@ -40,7 +40,7 @@ write-board-spec =
     tie.close
     (tie.spec
     valid-board-requires
-    record-of-requires
+    board-record-requires
     returns
     write-requires
     same-length
