@@ -50,10 +50,6 @@ module _ (p k : List ℕ) (v : ℕ) {m : List ℕ} {f : Found} (h : Held m (read
   pub after-off : (g : List ℕ → Got ℕ) → f .fits ≡ false → Held m (readAfter p g k) none
   after-off g t = rw (held-text p k v h, t) nothing
 
-  -- the text itself, with its value
-  pub itself : f .fits ≡ true → Held m (got v (drop (f .next) m)) f
-  itself t = record { within = h .within; says = rw t (rw (held-text p k v h, t) at (h .says)); blank = h .blank }
-
 -- the bytes of a gap and three thirds
 pub group-bytes : (kind : ℕ) (t : Three) → canonical (groupPieces kind t)
     ≡ bytes " " ++ (canonical (thirdPieces kind (t .0)) ++ (bytes "/" ++ (canonical (thirdPieces kind (t .1)) ++ (bytes "/" ++ canonical (thirdPieces kind (t .2))))))

@@ -10,7 +10,6 @@ use Rattle.text.specs.Names.{readName}
 use Rattle.text.specs.Numbers.{digits, readDigits}
 use Rattle.surface.specs.Descriptions.{notReported, compactedSnow, drySnow, drySnowOnCompactedSnow, drySnowOnIce, frost, ice, slush, standingWater}
 use Rattle.surface.specs.Descriptions.{waterOnCompactedSnow, wet, wetIce, wetSnow, wetSnowOnCompactedSnow, wetSnowOnIce, dry}
-use Rattle.thirds.specs.Code.Parts.{dries, wets}
 use Rattle.thirds.specs.Code.Held.{noTrio, jointText}
 use Rattle.thirds.specs.Groups.{codes, coverages, depths, descriptions, descriptionOrder, measurePieces, readMeasure, readCoverage, readDescription}
 use Rattle.thirds.specs.Groups.{thirdPieces, readThird, highest, Three, groupPieces, readGroup}
@@ -54,22 +53,12 @@ pub record Texts : Type 0 where
       ∷ []
       ∷ []
   joined : canonical (groupPieces depths (3, notReported, 100)) ≡ bytes " 03/NR/100"
+  kinds : codes ∷ coverages ∷ depths ∷ descriptions ∷ [] ≡ 0 ∷ 1 ∷ 2 ∷ 3 ∷ []
   joints : map jointText (0 ∷ 1 ∷ 2 ∷ []) ≡ bytes " " ∷ bytes "/" ∷ bytes "/" ∷ []
 
 pub texts : Texts
 unfolding spell digits measurePieces thirdPieces
-texts = record { code = refl; coverage = refl; depth = refl; description = refl; joined = refl; joints = refl }
-
--- what begins by DRY and by WET, the longer before what they begin with; the numbers of the groups
-pub record Parts : Type 0 where
-  begin-dry : dries ≡ (bytes "DRY SNOW ON TOP OF COMPACTED SNOW", drySnowOnCompactedSnow) ∷ (bytes "DRY SNOW ON TOP OF ICE", drySnowOnIce)
-      ∷ (bytes "DRY SNOW", drySnow) ∷ (bytes "DRY", dry) ∷ []
-  begin-wet : wets ≡ (bytes "WET SNOW ON TOP OF COMPACTED SNOW", wetSnowOnCompactedSnow) ∷ (bytes "WET SNOW ON TOP OF ICE", wetSnowOnIce)
-      ∷ (bytes "WET SNOW", wetSnow) ∷ (bytes "WET ICE", wetIce) ∷ (bytes "WET", wet) ∷ []
-  kinds : codes ∷ coverages ∷ depths ∷ descriptions ∷ [] ≡ 0 ∷ 1 ∷ 2 ∷ 3 ∷ []
-
-pub parts : Parts
-parts = record { begin-dry = refl; begin-wet = refl; kinds = refl }
+texts = record { code = refl; coverage = refl; depth = refl; description = refl; joined = refl; kinds = refl; joints = refl }
 
 pub record Readings : Type 0 where
   -- each description in its own text, whatever else begins as it does

@@ -1,13 +1,15 @@
 // The groups of thirds of a runway row's text: codes, coverages, depths and descriptions, joined by `/`.
+ghost use Prim.Native.Nat.{_≤_};
 ghost use lib.ListN.{drop};
 ghost use Rattle.text.specs.Piece.{canonical};
 ghost use Rattle.text.specs.Numbers.{readNumber};
 ghost use Rattle.text.specs.Code.Held.{Held};
 ghost use Rattle.text.specs.Read.{readWord};
+ghost use Rattle.text.specs.Names.{readName};
 ghost use Rattle.text.specs.Put.{Put};
-ghost use Rattle.text.specs.Texts.{readFirst};
 ghost use Rattle.thirds.specs.Groups.{measurePieces, readMeasure, readCoverage, descriptionPieces, readDescription, thirdPieces, readThird, groupPieces, readGroup};
-ghost use Rattle.thirds.specs.Code.Parts.{onTop, snows, behindDry, dries, behindWet, wets};
+ghost use Rattle.surface.specs.Descriptions.{descriptionName, frost, wet, dry};
+ghost use Rattle.thirds.specs.Code.Begin.{dries, wets};
 ghost use Rattle.thirds.specs.Code.Held.{HeldThree, Tried, Kept, jointText};
 use fill::put;
 use fill::put_digits;
@@ -58,96 +60,54 @@ fn or_word(f: Found, s: &[u8], i: usize, t: &[u8], v: u8) -> Found
     word(s, i, t, v as u32)
 }
 
-// What snow lies on, COMPACTED SNOW or ICE; the values are those of snow on top of it.
-fn on_top(s: &[u8], i: usize, compacted: u8, ice: u8) -> Found
-    ensures { λ r. ⌜ Held (now (s .entry)) (readFirst (onTop compacted ice) (drop i (now (s .entry)))) r ⌝ }
-{
-    let f = word(s, i, b" ON TOP OF ", 0);
-    if !f.fits {
-        return NONE;
-    }
-    let g = word(s, f.next, &texts::COMPACTED_SNOW, compacted as u32);
-    or_word(g, s, f.next, &texts::ICE, ice)
-}
-
-// SNOW on top of something, or else alone.
-fn snow(s: &[u8], i: usize, alone: u8, compacted: u8, ice: u8) -> Found
-    ensures { λ r. ⌜ Held (now (s .entry)) (readFirst (snows alone compacted ice) (drop i (now (s .entry)))) r ⌝ }
-{
-    let f = word(s, i, b"SNOW", alone as u32);
-    if !f.fits {
-        return NONE;
-    }
-    let g = on_top(s, f.next, compacted, ice);
-    if g.fits {
-        return g;
-    }
-    f
-}
-
-// What may stand behind DRY.
-fn behind_dry(s: &[u8], i: usize) -> Found
-    ensures { λ r. ⌜ Held (now (s .entry)) (readFirst behindDry (drop i (now (s .entry)))) r ⌝ }
-{
-    let f = word(s, i, b" ", 0);
-    if !f.fits {
-        return NONE;
-    }
-    snow(
-        s,
-        f.next,
-        description::DRY_SNOW,
-        description::DRY_SNOW_ON_COMPACTED_SNOW,
-        description::DRY_SNOW_ON_ICE,
-    )
-}
-
-// The descriptions that begin by DRY, and DRY alone where no longer one stands.
+// The descriptions that begin by DRY, a longer one before each that it begins with.
 fn dry(s: &[u8], i: usize) -> Found
-    ensures { λ r. ⌜ Held (now (s .entry)) (readFirst dries (drop i (now (s .entry)))) r ⌝ }
+    ensures { λ r. ⌜ Held (now (s .entry)) (readName descriptionName dries (drop i (now (s .entry)))) r ⌝ }
 {
-    let f = word(s, i, &texts::DRY, description::DRY as u32);
-    if !f.fits {
-        return NONE;
-    }
-    let g = behind_dry(s, f.next);
-    if g.fits {
-        return g;
-    }
-    f
+    let f = word(
+        s,
+        i,
+        &texts::DRY_SNOW_ON_COMPACTED_SNOW,
+        description::DRY_SNOW_ON_COMPACTED_SNOW as u32,
+    );
+    let f = or_word(
+        f,
+        s,
+        i,
+        &texts::DRY_SNOW_ON_ICE,
+        description::DRY_SNOW_ON_ICE,
+    );
+    let f = or_word(f, s, i, &texts::DRY_SNOW, description::DRY_SNOW);
+    or_word(f, s, i, &texts::DRY, description::DRY)
 }
 
-// What may stand behind WET.
-fn behind_wet(s: &[u8], i: usize) -> Found
-    ensures { λ r. ⌜ Held (now (s .entry)) (readFirst behindWet (drop i (now (s .entry)))) r ⌝ }
+// The same for those that begin by W.
+fn wet(s: &[u8], i: usize) -> Found
+    ensures { λ r. ⌜ Held (now (s .entry)) (readName descriptionName wets (drop i (now (s .entry)))) r ⌝ }
 {
-    let f = word(s, i, b" ", 0);
-    if !f.fits {
-        return NONE;
-    }
-    let g = snow(
+    let f = word(
         s,
-        f.next,
-        description::WET_SNOW,
+        i,
+        &texts::WATER_ON_COMPACTED_SNOW,
+        description::WATER_ON_COMPACTED_SNOW as u32,
+    );
+    let f = or_word(
+        f,
+        s,
+        i,
+        &texts::WET_SNOW_ON_COMPACTED_SNOW,
         description::WET_SNOW_ON_COMPACTED_SNOW,
+    );
+    let f = or_word(
+        f,
+        s,
+        i,
+        &texts::WET_SNOW_ON_ICE,
         description::WET_SNOW_ON_ICE,
     );
-    or_word(g, s, f.next, &texts::ICE, description::WET_ICE)
-}
-
-// The same for WET.
-fn wet(s: &[u8], i: usize) -> Found
-    ensures { λ r. ⌜ Held (now (s .entry)) (readFirst wets (drop i (now (s .entry)))) r ⌝ }
-{
-    let f = word(s, i, &texts::WET, description::WET as u32);
-    if !f.fits {
-        return NONE;
-    }
-    let g = behind_wet(s, f.next);
-    if g.fits {
-        return g;
-    }
-    f
+    let f = or_word(f, s, i, &texts::WET_SNOW, description::WET_SNOW);
+    let f = or_word(f, s, i, &texts::WET_ICE, description::WET_ICE);
+    or_word(f, s, i, &texts::WET, description::WET)
 }
 
 // The byte that stands there says which descriptions can.
@@ -173,16 +133,7 @@ fn description(s: &[u8], i: usize) -> Found
             let f = word(s, i, &texts::SLUSH, description::SLUSH as u32);
             or_word(f, s, i, &texts::STANDING_WATER, description::STANDING_WATER)
         }
-        b'W' => {
-            let f = wet(s, i);
-            or_word(
-                f,
-                s,
-                i,
-                &texts::WATER_ON_COMPACTED_SNOW,
-                description::WATER_ON_COMPACTED_SNOW,
-            )
-        }
+        b'W' => wet(s, i),
         _ => NONE,
     }
 }
@@ -284,6 +235,55 @@ pub fn read_group(kind: u8, s: &[u8], i: usize) -> Trio
 
 // ---- Writing
 
+// The descriptions from WET on.
+fn put_from_wet(d: u8, out: &mut [u8], at: usize) -> usize
+    requires { ⌜ (wet ≤ d) × (d ≤ dry) ⌝ }
+    ensures { λ r. ⌜ Put at (canonical (descriptionPieces d)) (now (out .entry)) (now (out .exit)) r ⌝ }
+{
+    match d {
+        description::WET => put(out, at, &texts::WET),
+        description::WET_ICE => put(out, at, &texts::WET_ICE),
+        description::WET_SNOW => put(out, at, &texts::WET_SNOW),
+        description::WET_SNOW_ON_COMPACTED_SNOW => {
+            put(out, at, &texts::WET_SNOW_ON_COMPACTED_SNOW)
+        }
+        description::WET_SNOW_ON_ICE => put(out, at, &texts::WET_SNOW_ON_ICE),
+        _ => put(out, at, &texts::DRY),
+    }
+}
+
+// Those from FROST on.
+fn put_from_frost(d: u8, out: &mut [u8], at: usize) -> usize
+    requires { ⌜ (frost ≤ d) × (d ≤ dry) ⌝ }
+    ensures { λ r. ⌜ Put at (canonical (descriptionPieces d)) (now (out .entry)) (now (out .exit)) r ⌝ }
+{
+    match d {
+        description::FROST => put(out, at, &texts::FROST),
+        description::ICE => put(out, at, &texts::ICE),
+        description::SLUSH => put(out, at, &texts::SLUSH),
+        description::STANDING_WATER => put(out, at, &texts::STANDING_WATER),
+        description::WATER_ON_COMPACTED_SNOW => { put(out, at, &texts::WATER_ON_COMPACTED_SNOW) }
+        _ => put_from_wet(d, out, at),
+    }
+}
+
+// NR, or one of the fifteen.
+fn put_from_nr(d: u8, out: &mut [u8], at: usize) -> usize
+    requires { ⌜ d ≤ dry ⌝ }
+    ensures { λ r. ⌜ Put at (canonical (descriptionPieces d)) (now (out .entry)) (now (out .exit)) r ⌝ }
+{
+    match d {
+        description::NR => put(out, at, &texts::NR),
+        description::COMPACTED_SNOW => put(out, at, &texts::COMPACTED_SNOW),
+        description::DRY_SNOW => put(out, at, &texts::DRY_SNOW),
+        description::DRY_SNOW_ON_COMPACTED_SNOW => {
+            put(out, at, &texts::DRY_SNOW_ON_COMPACTED_SNOW)
+        }
+        description::DRY_SNOW_ON_ICE => put(out, at, &texts::DRY_SNOW_ON_ICE),
+        _ => put_from_frost(d, out, at),
+    }
+}
+
 // Past DRY there is no description, and nothing is put.
 fn put_description(d: u32, out: &mut [u8], at: usize) -> usize
     ensures { λ r. ⌜ Put at (canonical (descriptionPieces d)) (now (out .entry)) (now (out .exit)) r ⌝ }
@@ -291,10 +291,7 @@ fn put_description(d: u32, out: &mut [u8], at: usize) -> usize
     if (description::DRY as u32) < d {
         return put(out, at, b"");
     }
-    let starts = texts::STARTS;
-    let start = starts[d as usize] as usize;
-    let end = starts[d as usize + 1] as usize;
-    put(out, at, &texts::ALL[start..end])
+    put_from_nr(d as u8, out, at)
 }
 
 // NR, or two digits, and three from 100 on.

@@ -1,9 +1,7 @@
 use mathlib.Core.Path.{refl}
 use mathlib.Core.List.{[], _∷_}
-use Rattle.thirds.proofs.Descriptions.{first-one, first-or, by-byte, by-W, by-other, by-end}
-use Rattle.text.specs.Piece.{bytes}
-use Rattle.thirds.specs.Code.Parts.{wets}
-use Rattle.surface.specs.Descriptions.{notReported, compactedSnow, frost, ice, slush, standingWater, waterOnCompactedSnow}
+use Rattle.thirds.proofs.Descriptions.{first, next, by-byte, by-other, by-end}
+use Rattle.surface.specs.Descriptions.{notReported, compactedSnow, frost, ice, slush, standingWater}
 use borrow.Author.Needs.{needs}
 use Rattle.thirds.proofs.description.Statement.{statement}
 use Rattle.thirds.proofs.description.Tie as tie
@@ -71,38 +69,29 @@ or-word-requires c κs = search needs
 wet-requires : tie.Need-wet-requires
 wet-requires c κs = search needs
 
-slice-aggregate-or-word-2 : tie.Need-slice-aggregate-or-word-2
-slice-aggregate-or-word-2 c = search needs
-
-or-word-requires-2 : tie.Need-or-word-requires-2
-or-word-requires-2 c κs = search needs
-
 returns-2 : tie.Need-returns-2
-returns-2 c = let c₁ = c .before .before in by-byte 78 _ _ (c₁ .before .before .if1 .left) (c₁ .match .keys1) (first-one (bytes "NR") notReported _ (c .word .ensures))
+returns-2 c = let c₁ = c .before .before in by-byte 78 _ _ (c₁ .before .before .if1 .left) (c₁ .match .keys1) (first notReported _ (c .word .ensures))
 
 returns-3 : tie.Need-returns-3
-returns-3 c = let c₁ = c .before .before in by-byte 67 _ _ (c₁ .before .before .if1 .left) (c₁ .match .keys2) (first-one (bytes "COMPACTED SNOW") compactedSnow _ (c .word2 .ensures))
+returns-3 c = let c₁ = c .before .before in by-byte 67 _ _ (c₁ .before .before .if1 .left) (c₁ .match .keys2) (first compactedSnow _ (c .word2 .ensures))
 
 returns-4 : tie.Need-returns-4
 returns-4 c = let c₁ = c .before in by-byte 68 _ _ (c₁ .before .before .if1 .left) (c₁ .match .keys3) (c .dry .ensures)
 
 returns-5 : tie.Need-returns-5
-returns-5 c = let c₁ = c .before .before in by-byte 70 _ _ (c₁ .before .before .if1 .left) (c₁ .match .keys4) (first-one (bytes "FROST") frost _ (c .word3 .ensures))
+returns-5 c = let c₁ = c .before .before in by-byte 70 _ _ (c₁ .before .before .if1 .left) (c₁ .match .keys4) (first frost _ (c .word3 .ensures))
 
 returns-6 : tie.Need-returns-6
-returns-6 c = let c₁ = c .before .before in by-byte 73 _ _ (c₁ .before .before .if1 .left) (c₁ .match .keys5) (first-one (bytes "ICE") ice _ (c .word4 .ensures))
+returns-6 c = let c₁ = c .before .before in by-byte 73 _ _ (c₁ .before .before .if1 .left) (c₁ .match .keys5) (first ice _ (c .word4 .ensures))
 
 returns-7 : tie.Need-returns-7
 returns-7 c =
     let c₁ = c .before .before in
     let c₂ = c₁ .before .before in
-    by-byte 83 _ _ (c₂ .before .before .if1 .left) (c₂ .match .keys6) (first-or ((bytes "SLUSH", slush) ∷ []) (bytes "STANDING WATER") standingWater _ (c .or-word .ensures) (first-one (bytes "SLUSH") slush _ (c₁ .word5 .ensures)))
+    by-byte 83 _ _ (c₂ .before .before .if1 .left) (c₂ .match .keys6) (next (slush ∷ []) standingWater _ (c .or-word .ensures) (first slush _ (c₁ .word5 .ensures)))
 
 returns-8 : tie.Need-returns-8
-returns-8 c =
-    let c₁ = c .before .before in
-    let c₂ = c₁ .before in
-    by-W _ _ (c₂ .before .before .if1 .left) (c₂ .match .keys7) (first-or wets (bytes "WATER ON TOP OF COMPACTED SNOW") waterOnCompactedSnow _ (c .or-word2 .ensures) (c₁ .wet .ensures))
+returns-8 c = let c₁ = c .before in by-byte 87 _ _ (c₁ .before .before .if1 .left) (c₁ .match .keys7) (c .wet .ensures)
 
 returns-9 : tie.Need-returns-9
 returns-9 c = let r = c .match .rest in by-other _ _ _ (c .before .before .if1 .left) refl (r .0 .0 .0 .0 .0 .0 .1) (r .0 .0 .0 .0 .0 .1) (r .0 .0 .0 .0 .1) (r .0 .0 .0 .1) (r .0 .0 .1) (r .0 .1) (r .1)
@@ -132,8 +121,6 @@ description-spec =
     slice-aggregate-or-word
     or-word-requires
     wet-requires
-    slice-aggregate-or-word-2
-    or-word-requires-2
     returns-2
     returns-3
     returns-4

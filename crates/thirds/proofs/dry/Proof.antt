@@ -1,7 +1,6 @@
-use borrow.Author.Tests.{not-true, not-false}
-use Rattle.thirds.proofs.Descriptions.{longer-none, longer-on, longer-off}
-use Rattle.text.specs.Piece.{bytes}
-use Rattle.thirds.specs.Code.Parts.{behindDry}
+use mathlib.Core.List.{[], _∷_}
+use Rattle.thirds.proofs.Descriptions.{first, next}
+use Rattle.surface.specs.Descriptions.{drySnowOnCompactedSnow, drySnowOnIce, drySnow, dry}
 use borrow.Author.Needs.{needs}
 use Rattle.thirds.proofs.dry.Statement.{statement}
 use Rattle.thirds.proofs.dry.Tie as tie
@@ -15,17 +14,30 @@ cast-word c = search needs
 word-requires : tie.Need-word-requires
 word-requires c κs = search needs
 
+slice-aggregate-or-word : tie.Need-slice-aggregate-or-word
+slice-aggregate-or-word c = search needs
+
+or-word-requires : tie.Need-or-word-requires
+or-word-requires c κs = search needs
+
+slice-aggregate-or-word-2 : tie.Need-slice-aggregate-or-word-2
+slice-aggregate-or-word-2 c = search needs
+
+or-word-requires-2 : tie.Need-or-word-requires-2
+or-word-requires-2 c κs = search needs
+
+slice-aggregate-or-word-3 : tie.Need-slice-aggregate-or-word-3
+slice-aggregate-or-word-3 c = search needs
+
+or-word-requires-3 : tie.Need-or-word-requires-3
+or-word-requires-3 c κs = search needs
+
 returns : tie.Need-returns
-returns c = longer-none (bytes "DRY") behindDry _ _ (c .before .before .word .ensures) (not-true _ (c .if1 .taken))
-
-behind-dry-requires : tie.Need-behind-dry-requires
-behind-dry-requires c κs = search needs
-
-returns-2 : tie.Need-returns-2
-returns-2 c = let c₁ = c .before .before in longer-on (bytes "DRY") behindDry _ _ (c₁ .before .before .word .ensures) (not-false _ (c₁ .if1 .left)) (c .before .behind-dry .ensures) (c .if2 .taken)
-
-returns-3 : tie.Need-returns-3
-returns-3 c = let c₁ = c .before .before in longer-off (bytes "DRY") behindDry _ _ (c₁ .before .before .word .ensures) (not-false _ (c₁ .if1 .left)) (c .before .behind-dry .ensures) (c .if2 .left)
+returns c =
+    let c₁ = c .before .before in
+    let c₂ = c₁ .before .before in
+    let c₃ = c₂ .before .before in
+    next (drySnowOnCompactedSnow ∷ drySnowOnIce ∷ drySnow ∷ []) dry _ (c .or-word3 .ensures) (next (drySnowOnCompactedSnow ∷ drySnowOnIce ∷ []) drySnow _ (c₁ .or-word2 .ensures) (next (drySnowOnCompactedSnow ∷ []) drySnowOnIce _ (c₂ .or-word .ensures) (first drySnowOnCompactedSnow _ (c₃ .word .ensures))))
 
 pub dry-spec : {M : Type 1} → statement M
 dry-spec =
@@ -34,7 +46,10 @@ dry-spec =
     slice-aggregate-word
     cast-word
     word-requires
-    returns
-    behind-dry-requires
-    returns-2
-    returns-3)
+    slice-aggregate-or-word
+    or-word-requires
+    slice-aggregate-or-word-2
+    or-word-requires-2
+    slice-aggregate-or-word-3
+    or-word-requires-3
+    returns)

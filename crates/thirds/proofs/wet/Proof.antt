@@ -1,7 +1,6 @@
-use borrow.Author.Tests.{not-true, not-false}
-use Rattle.thirds.proofs.Descriptions.{longer-none, longer-on, longer-off}
-use Rattle.text.specs.Piece.{bytes}
-use Rattle.thirds.specs.Code.Parts.{behindWet}
+use mathlib.Core.List.{[], _∷_}
+use Rattle.thirds.proofs.Descriptions.{first, next}
+use Rattle.surface.specs.Descriptions.{waterOnCompactedSnow, wetSnowOnCompactedSnow, wetSnowOnIce, wetSnow, wetIce, wet}
 use borrow.Author.Needs.{needs}
 use Rattle.thirds.proofs.wet.Statement.{statement}
 use Rattle.thirds.proofs.wet.Tie as tie
@@ -15,17 +14,44 @@ cast-word c = search needs
 word-requires : tie.Need-word-requires
 word-requires c κs = search needs
 
+slice-aggregate-or-word : tie.Need-slice-aggregate-or-word
+slice-aggregate-or-word c = search needs
+
+or-word-requires : tie.Need-or-word-requires
+or-word-requires c κs = search needs
+
+slice-aggregate-or-word-2 : tie.Need-slice-aggregate-or-word-2
+slice-aggregate-or-word-2 c = search needs
+
+or-word-requires-2 : tie.Need-or-word-requires-2
+or-word-requires-2 c κs = search needs
+
+slice-aggregate-or-word-3 : tie.Need-slice-aggregate-or-word-3
+slice-aggregate-or-word-3 c = search needs
+
+or-word-requires-3 : tie.Need-or-word-requires-3
+or-word-requires-3 c κs = search needs
+
+slice-aggregate-or-word-4 : tie.Need-slice-aggregate-or-word-4
+slice-aggregate-or-word-4 c = search needs
+
+or-word-requires-4 : tie.Need-or-word-requires-4
+or-word-requires-4 c κs = search needs
+
+slice-aggregate-or-word-5 : tie.Need-slice-aggregate-or-word-5
+slice-aggregate-or-word-5 c = search needs
+
+or-word-requires-5 : tie.Need-or-word-requires-5
+or-word-requires-5 c κs = search needs
+
 returns : tie.Need-returns
-returns c = longer-none (bytes "WET") behindWet _ _ (c .before .before .word .ensures) (not-true _ (c .if1 .taken))
-
-behind-wet-requires : tie.Need-behind-wet-requires
-behind-wet-requires c κs = search needs
-
-returns-2 : tie.Need-returns-2
-returns-2 c = let c₁ = c .before .before in longer-on (bytes "WET") behindWet _ _ (c₁ .before .before .word .ensures) (not-false _ (c₁ .if1 .left)) (c .before .behind-wet .ensures) (c .if2 .taken)
-
-returns-3 : tie.Need-returns-3
-returns-3 c = let c₁ = c .before .before in longer-off (bytes "WET") behindWet _ _ (c₁ .before .before .word .ensures) (not-false _ (c₁ .if1 .left)) (c .before .behind-wet .ensures) (c .if2 .left)
+returns c =
+    let c₁ = c .before .before in
+    let c₂ = c₁ .before .before in
+    let c₃ = c₂ .before .before in
+    let c₄ = c₃ .before .before in
+    let c₅ = c₄ .before .before in
+    next (waterOnCompactedSnow ∷ wetSnowOnCompactedSnow ∷ wetSnowOnIce ∷ wetSnow ∷ wetIce ∷ []) wet _ (c .or-word5 .ensures) (next (waterOnCompactedSnow ∷ wetSnowOnCompactedSnow ∷ wetSnowOnIce ∷ wetSnow ∷ []) wetIce _ (c₁ .or-word4 .ensures) (next (waterOnCompactedSnow ∷ wetSnowOnCompactedSnow ∷ wetSnowOnIce ∷ []) wetSnow _ (c₂ .or-word3 .ensures) (next (waterOnCompactedSnow ∷ wetSnowOnCompactedSnow ∷ []) wetSnowOnIce _ (c₃ .or-word2 .ensures) (next (waterOnCompactedSnow ∷ []) wetSnowOnCompactedSnow _ (c₄ .or-word .ensures) (first waterOnCompactedSnow _ (c₅ .word .ensures))))))
 
 pub wet-spec : {M : Type 1} → statement M
 wet-spec =
@@ -34,7 +60,14 @@ wet-spec =
     slice-aggregate-word
     cast-word
     word-requires
-    returns
-    behind-wet-requires
-    returns-2
-    returns-3)
+    slice-aggregate-or-word
+    or-word-requires
+    slice-aggregate-or-word-2
+    or-word-requires-2
+    slice-aggregate-or-word-3
+    or-word-requires-3
+    slice-aggregate-or-word-4
+    or-word-requires-4
+    slice-aggregate-or-word-5
+    or-word-requires-5
+    returns)
