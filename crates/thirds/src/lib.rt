@@ -7,8 +7,8 @@ ghost use Rattle.text.specs.Code.Held.{Held};
 ghost use Rattle.text.specs.Read.{readWord};
 ghost use Rattle.text.specs.Names.{readName};
 ghost use Rattle.text.specs.Put.{Put};
-ghost use Rattle.thirds.specs.Groups.{measurePieces, readMeasure, readCoverage, descriptionPieces, readDescription, thirdPieces, readThird, groupPieces, readGroup};
 ghost use Rattle.surface.specs.Descriptions.{descriptionName, frost, wet, dry};
+ghost use Rattle.thirds.specs.Groups.{measurePieces, readMeasure, readCoverage, descriptionPieces, readDescription, thirdPieces, readThird, groupPieces, readGroup};
 ghost use Rattle.thirds.specs.Code.Begin.{dries, wets};
 ghost use Rattle.thirds.specs.Code.Held.{HeldThree, Tried, Kept, jointText};
 use fill::put;
@@ -235,7 +235,7 @@ pub fn read_group(kind: u8, s: &[u8], i: usize) -> Trio
 
 // ---- Writing
 
-// The descriptions from WET on.
+// The descriptions from WET on. A few texts to a function are proved sooner than all sixteen in one.
 fn put_from_wet(d: u8, out: &mut [u8], at: usize) -> usize
     requires { ⌜ (wet ≤ d) × (d ≤ dry) ⌝ }
     ensures { λ r. ⌜ Put at (canonical (descriptionPieces d)) (now (out .entry)) (now (out .exit)) r ⌝ }
