@@ -26,6 +26,7 @@ use items::blank_item;
 use items::may_follow;
 use items::numbers_fit;
 use items::valid_item;
+use items::words;
 use runway::read_runway;
 use scan::CAPITALS_AND_DIGITS;
 use scan::LETTERS;
@@ -95,27 +96,27 @@ const OPENS_ALL_APRONS: u32 = 5;
 fn opening(s: &[u8], i: usize) -> Found
     ensures { λ r. ⌜ Held (now (s .entry)) (readName openingName openings (drop i (now (s .entry)))) r ⌝ }
 {
-    let a = word(s, i, b"RWY", OPENS_RUNWAY);
+    let a = word(s, i, &words::RWY, OPENS_RUNWAY);
     if a.fits {
         return a;
     }
-    let b = word(s, i, b"DRIFTING SNOW", OPENS_DRIFTING);
+    let b = word(s, i, &words::DRIFTING_SNOW, OPENS_DRIFTING);
     if b.fits {
         return b;
     }
-    let c = word(s, i, b"TWY", OPENS_TAXIWAYS);
+    let c = word(s, i, &words::TWY, OPENS_TAXIWAYS);
     if c.fits {
         return c;
     }
-    let d = word(s, i, b"ALL TWY POOR", OPENS_ALL_TAXIWAYS);
+    let d = word(s, i, &words::ALL_TWY_POOR, OPENS_ALL_TAXIWAYS);
     if d.fits {
         return d;
     }
-    let e = word(s, i, b"APRON", OPENS_APRON);
+    let e = word(s, i, &words::APRON, OPENS_APRON);
     if e.fits {
         return e;
     }
-    word(s, i, b"ALL APRON POOR", OPENS_ALL_APRONS)
+    word(s, i, &words::ALL_APRON_POOR, OPENS_ALL_APRONS)
 }
 
 // What is said of a runway.
@@ -127,23 +128,23 @@ fn saying(s: &[u8], i: usize) -> Found
         return NONE;
     }
     let next = gap.next;
-    let a = word(s, next, b"REDUCED TO", b'I' as u32);
+    let a = word(s, next, &words::REDUCED_TO, b'I' as u32);
     if a.fits {
         return a;
     }
-    let b = word(s, next, b"LOOSE SAND", b'K' as u32);
+    let b = word(s, next, &words::LOOSE_SAND, b'K' as u32);
     if b.fits {
         return b;
     }
-    let c = word(s, next, b"CHEMICALLY TREATED", b'L' as u32);
+    let c = word(s, next, &words::CHEMICALLY_TREATED, b'L' as u32);
     if c.fits {
         return c;
     }
-    let d = word(s, next, b"SNOWBANK", b'M' as u32);
+    let d = word(s, next, &words::SNOWBANK, b'M' as u32);
     if d.fits {
         return d;
     }
-    word(s, next, b"ADJ SNOWBANK", b'O' as u32)
+    word(s, next, &words::ADJ_SNOWBANK, b'O' as u32)
 }
 
 // What is said of taxiways.
@@ -155,26 +156,26 @@ fn taxi_saying(s: &[u8], i: usize) -> Found
         return NONE;
     }
     let next = gap.next;
-    let a = word(s, next, b"SNOWBANK", b'N' as u32);
+    let a = word(s, next, &words::SNOWBANK, b'N' as u32);
     if a.fits {
         return a;
     }
-    word(s, next, b"POOR", b'P' as u32)
+    word(s, next, &words::POOR, b'P' as u32)
 }
 
 // LR is tried before L.
 fn edge(s: &[u8], i: usize) -> Found
     ensures { λ r. ⌜ Held (now (s .entry)) (readName edgeName edges (drop i (now (s .entry)))) r ⌝ }
 {
-    let a = word(s, i, b"LR", 3);
+    let a = word(s, i, &words::LR, 3);
     if a.fits {
         return a;
     }
-    let b = word(s, i, b"L", 1);
+    let b = word(s, i, &words::L, 1);
     if b.fits {
         return b;
     }
-    word(s, i, b"R", 2)
+    word(s, i, &words::R, 2)
 }
 
 // Three digits, or four from 1000 on.
@@ -225,7 +226,7 @@ fn bank_detail(s: &[u8], i: usize) -> DetailFound
     if !n.fits {
         return NO_DETAIL;
     }
-    let w = word(s, n.next, b" FM CL", 0);
+    let w = word(s, n.next, &words::FM_CL, 0);
     if !w.fits {
         return NO_DETAIL;
     }
@@ -456,7 +457,11 @@ fn read_apron_item(s: &[u8], i: usize) -> ItemFound
     if !is_apron(&s[start..next]) {
         return no_item();
     }
-    let w = word(s, next, b" POOR", 0);
+    let g = word(s, next, b" ", 0);
+    if !g.fits {
+        return no_item();
+    }
+    let w = word(s, g.next, &words::POOR, 0);
     if !w.fits {
         return no_item();
     }
@@ -537,7 +542,7 @@ pub fn read_awareness(line: &[u8]) -> ItemsRead
         if !found.fits {
             break 'items false;
         }
-        let stop = word(line, found.next, b".", 0);
+        let stop = word(line, found.next, &words::FULL_STOP, 0);
         if !stop.fits {
             break 'items false;
         }

@@ -13,6 +13,9 @@ ghost use Rattle.items.specs.Awareness.{sameRunway, otherApron, mayRepea
 ghost use Rattle.items.specs.Parts.{holdsItems, holdsLanguage};
 ghost use Rattle.items.specs.Language.{validLanguage};
 ghost use Rattle.items.specs.Code.Held.{SlotEnd};
+
+pub mod words;
+
 use fill::put;
 use runway::valid_runway;
 use scan::CAPITALS_AND_DIGITS;

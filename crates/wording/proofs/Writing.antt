@@ -1,7 +1,7 @@
 -- The texts of the items, piece by piece.
 use Prim.Native.Nat.{ℕ, zero, suc, _-_, _<_, _≤_}
 use mathlib.Core.Path.{_≡_, refl, sym, _∙_, ap}
-use mathlib.Core.List.{List, [], _∷_, _++_}
+use mathlib.Core.List.{List, [], _∷_, _++_, append-assoc}
 use mathlib.Core.Bool.{cond, Bool, true, false}
 use native.Mathlib.Omega.{arith}
 use lib.Dec.{eqb}
@@ -45,12 +45,18 @@ between a ps d = canonical-append (spell a) (ps ++ spell d) ∙ rw (spell-bytes 
 pub of-runway : (i : Item) (said : List ℕ) → canonical (ofRunway i said) ≡ bytes "RWY " ++ (canonical (runwayPieces (i .number) (i .side)) ++ said)
 of-runway i said = between (bytes "RWY ") (runwayPieces (i .number) (i .side)) said
 
-pub length-bytes : (i : Item) → canonical (lengthText i) ≡ canonical (ofRunway i (bytes " REDUCED TO ")) ++ canonical (number 3 (i .amount))
-length-bytes i = canonical-append (ofRunway i (bytes " REDUCED TO ")) (number 3 (i .amount))
+-- more may be said of a runway
+said-on : (i : Item) (a d k : List ℕ) → canonical (ofRunway i (a ++ d)) ++ k ≡ canonical (ofRunway i a) ++ (d ++ k)
+said-on i a d k = rw (of-runway i (a ++ d), of-runway i a) (simp append-assoc)
 
-pub bank-bytes : (i : Item) → canonical (bankText i) ≡ canonical (ofRunway i (bytes " SNOWBANK ")) ++ (canonical (spell (edgeName (i .edge))) ++ (canonical (digits 2 (i .amount)) ++ bytes " FM CL"))
+pub length-bytes : (i : Item) → canonical (lengthText i) ≡ canonical (ofRunway i (bytes " REDUCED TO")) ++ (bytes " " ++ canonical (number 3 (i .amount)))
+length-bytes i = canonical-append (ofRunway i (bytes " REDUCED TO ")) (number 3 (i .amount)) ∙ said-on i (bytes " REDUCED TO") (bytes " ") _
+
+pub bank-bytes : (i : Item)
+    → canonical (bankText i) ≡ canonical (ofRunway i (bytes " SNOWBANK")) ++ (bytes " " ++ (canonical (spell (edgeName (i .edge))) ++ (canonical (digits 2 (i .amount)) ++ bytes " FM CL")))
 bank-bytes i =
     canonical-append (ofRunway i (bytes " SNOWBANK ")) _
+    ∙ said-on i (bytes " SNOWBANK") (bytes " ") _
     ∙ rw (canonical-append (spell (edgeName (i .edge))) (digits 2 (i .amount) ++ words " FM CL"), canonical-append (digits 2 (i .amount)) (words " FM CL"), spell-bytes (bytes " FM CL"))
 
 -- a slot with less than three bytes

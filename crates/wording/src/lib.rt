@@ -1,6 +1,6 @@
 // Items put into words: the text of an item, and the awareness line that items make.
 
-ghost use mathlib.Core.List.{[]};
+ghost use mathlib.Core.List.{[], _++_};
 ghost use lib.Dec.{eqb};
 ghost use lib.ListN.{take};
 ghost use mathlib.Core.Bool.{cond};
@@ -17,6 +17,7 @@ use fill::told_behind;
 use items::Item;
 use items::MOST_ITEMS;
 use items::TAXIWAY_SIZE;
+use items::words;
 use runway::put_runway;
 use scan::CAPITALS_AND_DIGITS;
 use scan::counted;
@@ -29,9 +30,9 @@ fn put_edge(out: &mut [u8], at: usize, edge: u8) -> usize
     ensures { λ r. ⌜ Put at (canonical (spell (edgeName edge))) (now (out .entry)) (now (out .exit)) r ⌝ }
 {
     match edge {
-        1 => put(out, at, b"L"),
-        2 => put(out, at, b"R"),
-        3 => put(out, at, b"LR"),
+        1 => put(out, at, &words::L),
+        2 => put(out, at, &words::R),
+        3 => put(out, at, &words::LR),
         _ => put(out, at, b""),
     }
 }
@@ -46,12 +47,14 @@ fn put_number(out: &mut [u8], at: usize, x: u16) -> usize
     put_digits(out, at, 3, x as u32)
 }
 
-// The runway of an item, and what is said of it.
+// The runway of an item, and behind a space what is said of it.
 fn put_of_runway(out: &mut [u8], at: usize, i: Item, said: &[u8]) -> usize
-    ensures { λ r. ⌜ Put at (canonical (ofRunway i (now (said .entry)))) (now (out .entry)) (now (out .exit)) r ⌝ }
+    ensures { λ r. ⌜ Put at (canonical (ofRunway i (bytes " " ++ now (said .entry)))) (now (out .entry)) (now (out .exit)) r ⌝ }
 {
-    let at = put(out, at, b"RWY ");
+    let at = put(out, at, &words::RWY);
+    let at = put(out, at, b" ");
     let at = put_runway(out, at, i.number, i.side);
+    let at = put(out, at, b" ");
     put(out, at, said)
 }
 
@@ -59,7 +62,8 @@ fn put_of_runway(out: &mut [u8], at: usize, i: Item, said: &[u8]) -> usize
 fn put_length(out: &mut [u8], at: usize, i: Item) -> usize
     ensures { λ r. ⌜ Put at (canonical (lengthText i)) (now (out .entry)) (now (out .exit)) r ⌝ }
 {
-    let at = put_of_runway(out, at, i, b" REDUCED TO ");
+    let at = put_of_runway(out, at, i, &words::REDUCED_TO);
+    let at = put(out, at, b" ");
     put_number(out, at, i.amount)
 }
 
@@ -67,10 +71,11 @@ fn put_length(out: &mut [u8], at: usize, i: Item) -> usize
 fn put_bank(out: &mut [u8], at: usize, i: Item) -> usize
     ensures { λ r. ⌜ Put at (canonical (bankText i)) (now (out .entry)) (now (out .exit)) r ⌝ }
 {
-    let at = put_of_runway(out, at, i, b" SNOWBANK ");
+    let at = put_of_runway(out, at, i, &words::SNOWBANK);
+    let at = put(out, at, b" ");
     let at = put_edge(out, at, i.edge);
     let at = put_digits(out, at, 2, i.amount as u32);
-    put(out, at, b" FM CL")
+    put(out, at, &words::FM_CL)
 }
 
 // How many bytes the slot at the front of `t` has: three, or all that are left.
@@ -104,13 +109,14 @@ fn put_taxiways(out: &mut [u8], at: usize, t: &[u8], n: u8) -> usize
     put_taxiways(out, at, &t[end..], n - 1)
 }
 
-// The taxiways of an item, and what is said of them.
+// The taxiways of an item, and behind a space what is said of them.
 fn put_of_taxiways(out: &mut [u8], at: usize, i: Item, said: &[u8]) -> usize
-    ensures { λ r. ⌜ Put at (canonical (ofTaxiways i (now (said .entry)))) (now (out .entry)) (now (out .exit)) r ⌝ }
+    ensures { λ r. ⌜ Put at (canonical (ofTaxiways i (bytes " " ++ now (said .entry)))) (now (out .entry)) (now (out .exit)) r ⌝ }
 {
     let t = i.taxiways;
-    let at = put(out, at, b"TWY");
+    let at = put(out, at, &words::TWY);
     let at = put_taxiways(out, at, &t, i.count);
+    let at = put(out, at, b" ");
     put(out, at, said)
 }
 
@@ -119,9 +125,9 @@ fn put_poor_taxiways(out: &mut [u8], at: usize, i: Item) -> usize
     ensures { λ r. ⌜ Put at (canonical (poorTaxiways i)) (now (out .entry)) (now (out .exit)) r ⌝ }
 {
     if i.count == 0 {
-        return put(out, at, b"ALL TWY POOR");
+        return put(out, at, &words::ALL_TWY_POOR);
     }
-    put_of_taxiways(out, at, i, b" POOR")
+    put_of_taxiways(out, at, i, &words::POOR)
 }
 
 // Item R.
@@ -130,11 +136,13 @@ fn put_poor_apron(out: &mut [u8], at: usize, i: Item) -> usize
 {
     let name = i.name;
     if counted(&name, 0, CAPITALS_AND_DIGITS, 1) {
-        let at = put(out, at, b"APRON ");
+        let at = put(out, at, &words::APRON);
+        let at = put(out, at, b" ");
         let at = put_name(out, at, &name);
-        return put(out, at, b" POOR");
+        let at = put(out, at, b" ");
+        return put(out, at, &words::POOR);
     }
-    put(out, at, b"ALL APRON POOR")
+    put(out, at, &words::ALL_APRON_POOR)
 }
 
 // An item without its full stop.
@@ -144,12 +152,12 @@ fn put_text(out: &mut [u8], at: usize, i: Item) -> usize
     let letter = i.letter;
     match letter {
         b'I' => put_length(out, at, i),
-        b'J' => put(out, at, b"DRIFTING SNOW"),
-        b'K' => put_of_runway(out, at, i, b" LOOSE SAND"),
-        b'L' => put_of_runway(out, at, i, b" CHEMICALLY TREATED"),
+        b'J' => put(out, at, &words::DRIFTING_SNOW),
+        b'K' => put_of_runway(out, at, i, &words::LOOSE_SAND),
+        b'L' => put_of_runway(out, at, i, &words::CHEMICALLY_TREATED),
         b'M' => put_bank(out, at, i),
-        b'N' => put_of_taxiways(out, at, i, b" SNOWBANK"),
-        b'O' => put_of_runway(out, at, i, b" ADJ SNOWBANK"),
+        b'N' => put_of_taxiways(out, at, i, &words::SNOWBANK),
+        b'O' => put_of_runway(out, at, i, &words::ADJ_SNOWBANK),
         b'P' => put_poor_taxiways(out, at, i),
         _ => put_poor_apron(out, at, i),
     }
@@ -160,7 +168,7 @@ pub fn put_item(out: &mut [u8], at: usize, item: Item) -> usize
     ensures { λ r. ⌜ Put at (canonical (itemPieces item)) (now (out .entry)) (now (out .exit)) r ⌝ }
 {
     let at = put_text(out, at, item);
-    put(out, at, b".")
+    put(out, at, &words::FULL_STOP)
 }
 
 // ---- Writing a line

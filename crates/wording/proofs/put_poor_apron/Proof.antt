@@ -20,17 +20,29 @@ slice-aggregate-put c = search needs
 put-requires : tie.Need-put-requires
 put-requires c κs = search needs
 
+slice-aggregate-put-2 : tie.Need-slice-aggregate-put-2
+slice-aggregate-put-2 c = search needs
+
+put-requires-2 : tie.Need-put-requires-2
+put-requires-2 c κs = search needs
+
 slice-aggregate-put-name : tie.Need-slice-aggregate-put-name
 slice-aggregate-put-name c = search needs
 
 put-name-requires : tie.Need-put-name-requires
 put-name-requires c κs = search needs
 
-slice-aggregate-put-2 : tie.Need-slice-aggregate-put-2
-slice-aggregate-put-2 c = search needs
+slice-aggregate-put-3 : tie.Need-slice-aggregate-put-3
+slice-aggregate-put-3 c = search needs
 
-put-requires-2 : tie.Need-put-requires-2
-put-requires-2 c κs = search needs
+put-requires-3 : tie.Need-put-requires-3
+put-requires-3 c κs = search needs
+
+slice-aggregate-put-4 : tie.Need-slice-aggregate-put-4
+slice-aggregate-put-4 c = search needs
+
+put-requires-4 : tie.Need-put-requires-4
+put-requires-4 c κs = search needs
 
 same-length : tie.Need-same-length
 same-length c = search needs
@@ -39,16 +51,17 @@ returns : tie.Need-returns
 unfolding inClass
 returns c =
     let b12 = c .before .before .before .before .before .before .before .before .before .before .before .before in
-    let b16 = b12 .before .before .before .before in
-    let n = b16 .before .before .before .before .args .i .name in
-    rw (sym (one-counted isName n) ∙ sym (b16 .counted .ensures) ∙ b12 .before .before .before .if1 .taken, named-apron (run isName n))
-    (more (b12 .put .ensures) (more (c .before .before .before .before .before .before .before .put-name .ensures) (c .before .before .put2 .ensures)))
+    let b22 = b12 .before .before .before .before .before .before .before .before .before .before in
+    let b26 = b22 .before .before .before .before in
+    let n = b26 .before .before .before .before .args .i .name in
+    rw (sym (one-counted isName n) ∙ sym (b26 .counted .ensures) ∙ b22 .before .before .before .if1 .taken, named-apron (run isName n))
+    (more (b22 .put .ensures) (more (b12 .before .before .before .before .before .put2 .ensures) (more (b12 .put-name .ensures) (more (c .before .before .before .before .before .before .before .put3 .ensures) (c .before .before .put4 .ensures)))))
 
-slice-aggregate-put-3 : tie.Need-slice-aggregate-put-3
-slice-aggregate-put-3 c = search needs
+slice-aggregate-put-5 : tie.Need-slice-aggregate-put-5
+slice-aggregate-put-5 c = search needs
 
-put-requires-3 : tie.Need-put-requires-3
-put-requires-3 c κs = search needs
+put-requires-5 : tie.Need-put-requires-5
+put-requires-5 c κs = search needs
 
 same-length-2 : tie.Need-same-length-2
 same-length-2 c = search needs
@@ -57,7 +70,7 @@ returns-2 : tie.Need-returns-2
 unfolding inClass spell
 returns-2 c =
     let b6 = c .before .before .before .before .before .before in
-    rw (sym (one-counted isName (b6 .before .before .before .before .args .i .name)) ∙ sym (b6 .counted .ensures) ∙ c .before .before .before .before .before .if1 .left) (c .before .before .put3 .ensures)
+    rw (sym (one-counted isName (b6 .before .before .before .before .args .i .name)) ∙ sym (b6 .counted .ensures) ∙ c .before .before .before .before .before .if1 .left) (c .before .before .put5 .ensures)
 
 pub put-poor-apron-spec : {M : Type 1} → statement M
 put-poor-apron-spec =
@@ -67,13 +80,17 @@ put-poor-apron-spec =
     counted-requires
     slice-aggregate-put
     put-requires
-    slice-aggregate-put-name
-    put-name-requires
     slice-aggregate-put-2
     put-requires-2
-    same-length
-    returns
+    slice-aggregate-put-name
+    put-name-requires
     slice-aggregate-put-3
     put-requires-3
+    slice-aggregate-put-4
+    put-requires-4
+    same-length
+    returns
+    slice-aggregate-put-5
+    put-requires-5
     same-length-2
     returns-2)
