@@ -6,7 +6,7 @@ use mathlib.Core.Bool.{cond, Bool, true, false}
 use native.Mathlib.Omega.{arith}
 use lib.Dec.{eqb, ltb}
 use lib.ListN.{length, take, drop, length-take, length-drop, length-append}
-use lib.Seq.{take-all, take-take, length-take-le}
+use lib.Seq.{take-all, take-take, length-take-le, drop-drop}
 use borrow.Author.Tests.{ne-eqb, lt-ltb, le-ltb}
 use Rattle.text.specs.Choice.{isEmpty}
 use Rattle.text.specs.Read.{Got, misfit, got, guard}
@@ -24,11 +24,9 @@ use Rattle.awareness.specs.declared.ItemsRead.{ItemsRead}
 use Rattle.awareness.specs.Code.Held.{itemsAnswer}
 use Rattle.items.specs.declared.Language.{Language}
 use Rattle.text.specs.Out.{refuse, fit, atEnd, more}
-use Rattle.items.specs.Parts.{makeLanguage}
+use Rattle.items.specs.Parts.{makeItems, makeLanguage}
 use Rattle.remarks.specs.Remarks.{remarks, readLanguageLine, readRemarks}
-use Rattle.remarks.specs.declared.RemarksRead.{RemarksRead}
-use Rattle.remarks.specs.declared.Tail.{Tail}
-use Rattle.remarks.specs.Code.Held.{noRemarks, remarksAnswer, noTail, ending, lastItems, lastLanguage, nextLanguage, itemsStep, joined}
+use Rattle.remarks.specs.Code.Held.{noRemarks, remarksAnswer, ending, lastAnswer, languageStep, behindItems, itemsStep, nextStep}
 
 -- the text of a line: all of it but the `)` that closes
 module _ (l : List ℕ) where
@@ -69,126 +67,160 @@ module _ (m : List ℕ) (line : Line) (f : line ≡ firstLine m) (n : ℕ) (e : 
   text-shut-there : ltb n (line .size) ≡ closed (take (lineSize m) m)
   text-shut-there = rw e (ap (ltb (length (lineText (take (line .size) m)))) (sym line-size) ∙ text-shut (take (line .size) m) ∙ rw f)
 
--- the text of the first line stands at the front of the message
-text-first : (m : List ℕ) → take (length (lineText (take (lineSize m) m))) m ≡ lineText (take (lineSize m) m)
-text-first m = text-there m (firstLine m) refl _ refl
-
 -- behind items that fit
-module _ (is : List Item) (k : List ℕ) where
-  -- the plain language t stands at the front of m
-  end-says : (t m rest : List ℕ) → take (length t) m ≡ t → joined (itemsAnswer (got is k)) (ending (length t) (length rest)) m ≡ remarksAnswer (atEnd (lines rest) (remarks is t))
-  unfolding joined ending lines
-  end-says t m [] e = rw e
-  end-says t m (x ∷ r) e = rw (ne-eqb (suc (length r)) 0 (omega arith), lines-first x r)
+module _ (is : List Item) where
+  end-says : (t rest : List ℕ) → lastAnswer (ending (length rest)) (makeItems is) t ≡ remarksAnswer (atEnd (lines rest) (remarks is t))
+  unfolding lastAnswer ending lines
+  end-says t [] = refl
+  end-says t (x ∷ r) = rw (ne-eqb (suc (length r)) 0 (omega arith), lines-first x r)
 
-  closed-says : (c : Bool) (t m rest : List ℕ) → take (length t) m ≡ t
-      → joined (itemsAnswer (got is k)) (cond c (lastLanguage t (length rest)) (noTail 4)) m ≡ remarksAnswer (cond c (fit 9 (wholeLanguage t) (λ p. atEnd (lines rest) (remarks is p))) (refuse 4))
-  unfolding joined lastLanguage wholeLanguage
-  closed-says false t m rest e = refl
-  closed-says true t m rest e = go (validLanguage t)
+  closed-says : (c : Bool) (t rest : List ℕ)
+      → cond c (cond (validLanguage t) (lastAnswer (ending (length rest)) (makeItems is) t) (noRemarks 9)) (noRemarks 4)
+      ≡ remarksAnswer (cond c (fit 9 (wholeLanguage t) (λ p. atEnd (lines rest) (remarks is p))) (refuse 4))
+  unfolding wholeLanguage
+  closed-says false t rest = refl
+  closed-says true t rest = go (validLanguage t)
     where
-      go : (v : Bool) → joined (itemsAnswer (got is k)) (cond v (ending (length t) (length rest)) (noTail 9)) m ≡ remarksAnswer (fit 9 (guard v (got t [])) (λ p. atEnd (lines rest) (remarks is p)))
-      go true = end-says t m rest e
+      go : (v : Bool) → cond v (lastAnswer (ending (length rest)) (makeItems is) t) (noRemarks 9) ≡ remarksAnswer (fit 9 (guard v (got t [])) (λ p. atEnd (lines rest) (remarks is p)))
+      go true = end-says t rest
       go false = refl
 
-  language-says : (m : List ℕ) → joined (itemsAnswer (got is k)) (nextLanguage m) m ≡ remarksAnswer (readLanguageLine is (lines m))
-  unfolding joined nextLanguage lines lineSize closed
+  language-says : (m : List ℕ) → languageStep (makeItems is) m ≡ remarksAnswer (readLanguageLine is (lines m))
+  unfolding languageStep lines lineSize closed
   language-says [] = refl
   language-says (x ∷ m) =
-      let rest = drop (lineStep (x ∷ m)) (x ∷ m) in
-      rw (← length-drop (lineStep (x ∷ m)) (x ∷ m), lines-first x m) (closed-says (closed (take (lineSize (x ∷ m)) (x ∷ m))) (lineText (take (lineSize (x ∷ m)) (x ∷ m))) (x ∷ m) rest (text-first (x ∷ m)))
-
--- the items and what stands behind them, as they are answered
-abbrev below : ItemsRead → Bool → List ℕ → RemarksRead
-below r c rest = joined r (itemsStep (r .fits) (r .count) c rest) rest
+      rw (← length-drop (lineStep (x ∷ m)) (x ∷ m), lines-first x m)
+      (closed-says (closed (take (lineSize (x ∷ m)) (x ∷ m))) (lineText (take (lineSize (x ∷ m)) (x ∷ m))) (drop (lineStep (x ∷ m)) (x ∷ m)))
 
 items-says : (g : Got (List Item)) (c : Bool) (rest : List ℕ)
-    → below (itemsAnswer g) c rest ≡ remarksAnswer (fit 8 g (λ is. cond c (cond (isEmpty is) (refuse 8) (atEnd (lines rest) (remarks is []))) (readLanguageLine is (lines rest))))
-unfolding joined itemsStep lastItems
+    → behindItems (itemsAnswer g) c rest ≡ remarksAnswer (fit 8 g (λ is. cond c (cond (isEmpty is) (refuse 8) (atEnd (lines rest) (remarks is []))) (readLanguageLine is (lines rest))))
+unfolding behindItems
 items-says misfit c rest = refl
 items-says (got [] j) true rest = refl
-items-says (got (i ∷ is) j) true rest = rw (ne-eqb (suc (length is)) 0 (omega arith)) (end-says (i ∷ is) j [] rest rest refl)
-items-says (got is j) false rest = language-says is j rest
+items-says (got (i ∷ is) j) true rest = rw (ne-eqb (suc (length is)) 0 (omega arith)) (end-says (i ∷ is) [] rest)
+items-says (got is j) false rest = language-says is rest
 
 -- the first line of what is left; where nothing is left it is empty, and so is the line behind it
-first-says : (m : List ℕ) → below (itemsAnswer (wholeAwareness (lineText (take (lineSize m) m)))) (closed (take (lineSize m) m)) (drop (lineStep m) m) ≡ remarksAnswer (readRemarks (more (lines m)))
-unfolding joined itemsStep nextLanguage lines lineSize lineStep closed wholeAwareness readAwareness
+first-says : (m : List ℕ) → itemsStep m ≡ remarksAnswer (readRemarks (more (lines m)))
+unfolding itemsStep behindItems languageStep lines lineSize lineStep closed wholeAwareness readAwareness
 first-says [] = refl
-first-says (x ∷ m) = rw (lines-first x m) (items-says (wholeAwareness (lineText (take (lineSize (x ∷ m)) (x ∷ m)))) (closed (take (lineSize (x ∷ m)) (x ∷ m))) (drop (lineStep (x ∷ m)) (x ∷ m)))
+first-says (x ∷ m) =
+    rw (lines-first x m) (items-says (wholeAwareness (lineText (take (lineSize (x ∷ m)) (x ∷ m)))) (closed (take (lineSize (x ∷ m)) (x ∷ m))) (drop (lineStep (x ∷ m)) (x ∷ m)))
 
--- a tail's plain language stands in what is left, and its array takes it
-record Kept (rest : List ℕ) (t : Tail) : Type 0 where
-  inside : t .size ≤ length rest
-  short : t .size ≤ 400
+-- what is left from here on is what the whole message says below the rows; no plain language is found yet
+pub record SoFar (m : List ℕ) (items : List Item) (count : ℕ) (below : Bool) (at size : ℕ) : Type 0 where
+  pub within : at ≤ length m
+  pub none : size ≡ 0
+  pub says : nextStep below (record { count = count; items = items }) (drop at m) ≡ remarksAnswer (readRemarks (more (lines m)))
 
-none-kept : (rest : List ℕ) (n : ℕ) → Kept rest (noTail n)
-none-kept rest n = record { inside = omega arith; short = omega arith }
+pub begun : (m : List ℕ) (items : List Item) → SoFar m items 0 false 0 0
+unfolding nextStep
+begun m items = record { within = omega arith; none = refl; says = first-says m }
 
-cond-kept : {rest : List ℕ} {t u : Tail} (b : Bool) → (b ≡ true → Kept rest t) → Kept rest u → Kept rest (cond b t u)
-cond-kept true h k = h refl
-cond-kept false h k = k
+-- the loop is left: the items and the plain language that was found, or the refusal
+pub record Left (m : List ℕ) (items : List Item) (count at size refusal : ℕ) : Type 0 where
+  pub inside : at + size ≤ length m
+  pub short : size ≤ 400
+  pub says : lastAnswer refusal (record { count = count; items = items }) (take size (drop at m)) ≡ remarksAnswer (readRemarks (more (lines m)))
 
-ending-kept : (rest : List ℕ) (n left : ℕ) → n ≤ length rest → n ≤ 400 → Kept rest (ending n left)
-unfolding ending
-ending-kept rest n left h k = cond-kept (eqb left 0) (λ _. record { inside = h; short = k }) (none-kept rest 4)
+-- a turn of the loop: the line at its place, and the size of its text
+module _ {m : List ℕ} {items : List Item} {count at size : ℕ} {below : Bool} (s : SoFar m items count below at size)
+    {line : Line} (f : line ≡ firstLine (take (length m - at) (drop at m))) where
+  here : line ≡ firstLine (drop at m)
+  here = f ∙ rw (part-all at m)
 
-language-kept : (m : List ℕ) → Kept m (nextLanguage m)
-unfolding nextLanguage lastLanguage
-language-kept m =
-    let l = lineText (take (lineSize m) m) in
-    let w : length l ≤ length m = omega (arith, simp length-take at (ap length (text-first m))) in
-    cond-kept (closed (take (lineSize m) m)) (λ _. cond-kept (validLanguage l) (λ v. ending-kept m (length l) _ w (language-short l v)) (none-kept m 9)) (none-kept m 4)
+  pub line-inside : (at + line .size ≤ length m) × (at + line .next ≤ length m)
+  line-inside = let w = first-within (drop at m) here in (omega (arith, length-drop at m), omega (arith, length-drop at m))
 
-tail-kept : (fits : Bool) (count : ℕ) (c : Bool) (rest : List ℕ) → Kept rest (itemsStep fits count c rest)
-unfolding itemsStep lastItems
-tail-kept fits count c rest =
-    cond-kept fits (λ _. cond-kept c (λ _. cond-kept (eqb count 0) (λ _. none-kept rest 8) (ending-kept rest 0 (length rest) (omega arith) (omega arith))) (language-kept rest)) (none-kept rest 8)
+  -- a refusal leaves the loop, whatever was found
+  pub refused : (n : ℕ) → eqb n 0 ≡ false → noRemarks n ≡ remarksAnswer (readRemarks (more (lines m))) → (found : List Item) (many : ℕ) → Left m found many at size n
+  unfolding lastAnswer
+  refused n z e found many = record { inside = omega arith; short = omega arith; says = rw z e }
 
--- the answers of the code
-module _ (m : List ℕ) (line : Line) (f : line ≡ firstLine m) (n : ℕ) (e : n ≡ length (lineText (take (line .size) m))) where
-  pub language-closed : n < line .size → nextLanguage m ≡ lastLanguage (take n m) (length m - line .next)
-  unfolding nextLanguage
-  language-closed h = rw (← text-there m line f n e, ← text-shut-there m line f n e, lt-ltb n (line .size) h, f)
+  module _ {n : ℕ} (e : n ≡ length (lineText (take (at + line .size - at) (drop at m)))) where
+    sized : n ≡ length (lineText (take (line .size) (drop at m)))
+    sized = let z : at + line .size - at ≡ line .size = omega arith in rw z at e
 
-  pub language-open : line .size ≤ n → nextLanguage m ≡ noTail 4
-  unfolding nextLanguage
-  language-open h = rw (← text-shut-there m line f n e, le-ltb n (line .size) h)
+    pub stop-inside : at + n ≤ length m
+    stop-inside = omega (arith, text-within (drop at m) line here n sized, line-inside .0)
 
-  remarks-says : below (itemsAnswer (wholeAwareness (take n m))) (ltb n (line .size)) (drop (line .next) m) ≡ remarksAnswer (readRemarks (more (lines m)))
-  remarks-says = rw (text-there m line f n e, text-shut-there m line f n e, f) (first-says m)
+    text : take (at + n - at) (drop at m) ≡ lineText (take (lineSize (drop at m)) (drop at m))
+    text = let z : at + n - at ≡ n = omega arith in rw z (text-there (drop at m) line here n sized)
 
--- what the code has found in m below the rows: its first line, the size of that line's text, the items in it and what stands behind them
-pub record Below (m : List ℕ) : Type 0 where
-  pub line : Line
-  pub size : ℕ
-  pub read : ItemsRead
-  pub tail : Tail
-  pub first : line ≡ firstLine m
-  pub sized : size ≡ length (lineText (take (line .size) m))
-  pub items : read ≡ itemsAnswer (wholeAwareness (take size m))
-  pub behind : tail ≡ itemsStep (read .fits) (read .count) (ltb size (line .size)) (take (length m - line .next) (drop (line .next) m))
+    shut : at + n < at + line .size → closed (take (lineSize (drop at m)) (drop at m)) ≡ true
+    shut h = sym (text-shut-there (drop at m) line here n sized) ∙ lt-ltb n (line .size) (omega arith)
 
--- either the tail is refused, or it stands behind the items
-module _ {m : List ℕ} (x : Below m) where
-  both : joined (x .read) (x .tail) (drop (x .line .next) m) ≡ remarksAnswer (readRemarks (more (lines m)))
-  both = rw (x .behind, x .items, part-all) (remarks-says m (x .line) (x .first) (x .size) (x .sized))
+    unclosed : at + line .size ≤ at + n → closed (take (lineSize (drop at m)) (drop at m)) ≡ false
+    unclosed h = sym (text-shut-there (drop at m) line here n sized) ∙ le-ltb n (line .size) (omega arith)
 
-  kept : Kept (drop (x .line .next) m) (x .tail)
-  kept = rw (x .behind, part-all) (tail-kept (x .read .fits) (x .read .count) (ltb (x .size) (x .line .size)) (drop (x .line .next) m))
+    rest : length m - (at + line .next) ≡ length (drop at m) - lineStep (drop at m)
+    rest = omega (arith, length-drop at m, ap (λ (l : Line). l .next) here)
 
-  pub tail-inside : x .line .next + x .tail .size ≤ length m
-  tail-inside = omega (arith, kept .inside, length-drop (x .line .next) m, first-within m (x .first) .1)
+    -- the line of plain language
+    module _ (b : below ≡ true) where
+      language-here : languageStep (record { count = count; items = items }) (drop at m) ≡ remarksAnswer (readRemarks (more (lines m)))
+      unfolding nextStep
+      language-here = rw b at (s .says)
 
-  pub tail-short : length (take (x .line .next + x .tail .size - x .line .next) (drop (x .line .next) m)) ≤ 400
-  tail-short = rw length-take (omega (arith, kept .short))
+      pub not-closed : at + line .size ≤ at + n → noRemarks 4 ≡ remarksAnswer (readRemarks (more (lines m)))
+      unfolding languageStep
+      not-closed h = rw (unclosed h) at language-here
 
-  pub tail-refused : (x .tail .refusal ≡ 0 → ⊥) → noRemarks (x .tail .refusal) ≡ remarksAnswer (readRemarks (more (lines m)))
-  unfolding joined
-  tail-refused h = rw (ne-eqb (x .tail .refusal) 0 h) at both
+      module _ (h : at + n < at + line .size) {v : Bool} (q : v ≡ validLanguage (take (at + n - at) (drop at m))) where
+        judged : validLanguage (lineText (take (lineSize (drop at m)) (drop at m))) ≡ v
+        judged = ap validLanguage (sym text) ∙ sym q
 
-  pub tail-joined : x .tail .refusal ≡ 0 → {l : Language} → l ≡ makeLanguage (take (x .line .next + x .tail .size - x .line .next) (drop (x .line .next) m))
-      → record { refusal = 0; items = record { count = x .read .count; items = x .read .items }; language = l } ≡ remarksAnswer (readRemarks (more (lines m)))
-  unfolding joined
-  tail-joined h k =
-      let z : x .line .next + x .tail .size - x .line .next ≡ x .tail .size = omega arith in
-      rw (k, z) (rw h at both)
+        pub no-language : v ≡ false → noRemarks 9 ≡ remarksAnswer (readRemarks (more (lines m)))
+        unfolding languageStep
+        no-language x = rw (judged ∙ x, shut h) at language-here
+
+        pub last-language : v ≡ true → {r : ℕ} → r ≡ ending (length m - (at + line .next)) → Left m items count at n r
+        unfolding languageStep
+        last-language x y =
+            let z : at + n - at ≡ n = omega arith in
+            record {
+              inside = stop-inside;
+              short = omega (arith, sized ∙ ap (λ (l : Line). length (lineText (take (l .size) (drop at m)))) here, language-short _ (judged ∙ x));
+              says = rw (y, rest, ap (λ (k : ℕ). take k (drop at m)) (sym z) ∙ text, shut h) (rw (judged ∙ x, shut h) at language-here);
+            }
+
+    -- the awareness line
+    module _ (b : below ≡ false) {r : ItemsRead} (q : r ≡ itemsAnswer (wholeAwareness (take (at + n - at) (drop at m)))) where
+      items-here : behindItems r (closed (take (lineSize (drop at m)) (drop at m))) (drop (lineStep (drop at m)) (drop at m)) ≡ remarksAnswer (readRemarks (more (lines m)))
+      unfolding nextStep itemsStep
+      items-here = rw (q, text) (rw b at (s .says))
+
+      pub no-items : r .fits ≡ false → noRemarks 8 ≡ remarksAnswer (readRemarks (more (lines m)))
+      unfolding behindItems
+      no-items x = rw x at items-here
+
+      module _ (x : r .fits ≡ true) where
+        pub empty-items : at + n < at + line .size → r .count ≡ 0 → noRemarks 8 ≡ remarksAnswer (readRemarks (more (lines m)))
+        unfolding behindItems
+        empty-items h z = rw (x, shut h, z) at items-here
+
+        pub last-items : at + n < at + line .size → (r .count ≡ 0 → ⊥) → {p : ℕ} → p ≡ ending (length m - (at + line .next)) → Left m (r .items) (r .count) at size p
+        unfolding behindItems
+        last-items h z y =
+            let k : length (drop (lineStep (drop at m)) (drop at m)) ≡ length m - (at + line .next) = length-drop (lineStep (drop at m)) (drop at m) ∙ sym rest in
+            record { inside = omega arith; short = omega arith; says = rw (y, s .none) (rw (x, shut h, ne-eqb (r .count) 0 z, k) at items-here) }
+
+        pub goes-on : at + line .size ≤ at + n → SoFar m (r .items) (r .count) true (at + line .next) size
+        unfolding behindItems nextStep
+        goes-on h =
+            let k : drop (lineStep (drop at m)) (drop at m) ≡ drop (at + line .next) m = rw (here, drop-drop) in
+            record { within = line-inside .1; none = s .none; says = rw (x, unclosed h, k) at items-here }
+
+-- the answer behind the loop
+module _ {m : List ℕ} {items : List Item} {count at size n : ℕ} (l : Left m items count at size n) where
+  pub language-short-there : length (take (at + size - at) (drop at m)) ≤ 400
+  language-short-there = rw length-take (omega (arith, l .short))
+
+  pub refused-answer : (n ≡ 0 → ⊥) → noRemarks n ≡ remarksAnswer (readRemarks (more (lines m)))
+  unfolding lastAnswer
+  refused-answer h = rw (ne-eqb n 0 h) at (l .says)
+
+  pub taken-answer : n ≡ 0 → {k : Language} → k ≡ makeLanguage (take (at + size - at) (drop at m))
+      → record { refusal = 0; items = record { count = count; items = items }; language = k } ≡ remarksAnswer (readRemarks (more (lines m)))
+  unfolding lastAnswer
+  taken-answer h e = let z : at + size - at ≡ size = omega arith in rw (e, z) (rw h at (l .says))

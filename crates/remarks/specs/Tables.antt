@@ -1,23 +1,37 @@
 -- The answers below the rows, evaluated: each refusal, and blank where there is one.
 use Prim.Native.Nat.{ℕ}
 use mathlib.Core.Path.{_≡_, refl}
-use mathlib.Core.List.{[], _∷_, _++_, map}
-use mathlib.Core.Bool.{true, false}
+use mathlib.Core.List.{List, [], _∷_, _++_, map}
+use mathlib.Core.Bool.{Bool, true, false}
 use lib.ListN.{replicate}
 use Rattle.text.specs.Choice.{_and_}
 use Rattle.text.specs.Piece.{bytes}
 use Rattle.text.specs.Names.{isMark}
 use Rattle.text.specs.Lines.{endSize, lineSize, lineStep, closed, allButLast}
 use Rattle.text.specs.Out.{more, refuse, taken}
+use Rattle.text.specs.Read.{got}
+use Rattle.items.specs.declared.Items.{Items}
+use Rattle.items.specs.Parts.{makeItems, makeLanguage}
+use Rattle.awareness.specs.declared.ItemsRead.{ItemsRead}
+use Rattle.awareness.specs.Code.Held.{itemsAnswer}
+use Rattle.remarks.specs.declared.RemarksRead.{RemarksRead}
 use Rattle.items.specs.Item.{letterJ}
 use Rattle.items.specs.ReadItem.{bareItem}
+use Rattle.items.specs.Awareness.{readAwareness, wholeAwareness}
 use Rattle.items.specs.Language.{lastIs, validLanguage}
 use Rattle.remarks.specs.Remarks.{readLanguageLine, readRemarks, remarks}
-use Rattle.remarks.specs.declared.Tail.{Tail}
-use Rattle.remarks.specs.Code.Held.{noRemarks, remarksAnswer, noTail, ending, lastItems, lastLanguage, nextLanguage, itemsStep, joined}
+use Rattle.remarks.specs.Code.Held.{noRemarks, remarksAnswer, ending, lastAnswer, languageStep, behindItems, itemsStep, nextStep}
 
-abbrev said : ℕ → Tail
-said n = record { refusal = 0; size = n }
+-- one item, in its array and as it was read
+abbrev drifting : Items
+drifting = makeItems (bareItem letterJ ∷ [])
+
+abbrev drift : Bool → ItemsRead
+drift fits′ = record { fits = fits′; count = drifting .count; items = drifting .items }
+
+-- plain language below it
+abbrev said : List ℕ → RemarksRead
+said l = record { refusal = 0; items = drifting; language = makeLanguage l }
 
 pub record Answers : Type 0 where
   no-remarks : noRemarks 8 ≡ record {
@@ -37,45 +51,39 @@ pub record Answers : Type 0 where
   -- 4 where the awareness line, or that of plain language, is missing
   no-items : readRemarks (more []) ≡ refuse 4
   no-language : readLanguageLine [] [] ≡ refuse 4
-  no-tail : noTail 4 ≡ record { refusal = 4; size = 0 }
   -- "bytes after the end": 4
-  ends : map (ending 2) (0 ∷ 1 ∷ 2 ∷ []) ≡ said 2 ∷ noTail 4 ∷ noTail 4 ∷ []
-  -- 8 where the awareness line is "empty before `)`"
-  empty : map (λ n. lastItems n 0) (0 ∷ 1 ∷ 2 ∷ []) ≡ noTail 8 ∷ said 0 ∷ said 0 ∷ []
-  -- 9 where plain language does not fit
-  last : map (λ s. lastLanguage (bytes s) 0) ("A." ∷ "AB." ∷ "" ∷ "a." ∷ []) ≡ said 2 ∷ said 3 ∷ noTail 9 ∷ noTail 9 ∷ []
-  -- 4 where the line is missing or lacks `)`
-  languages : map (λ s. nextLanguage (bytes s)) ("" ∷ ")" ∷ "A.)" ∷ "A." ∷ "a.)" ∷ []) ≡ noTail 4 ∷ noTail 9 ∷ said 2 ∷ noTail 4 ∷ noTail 9 ∷ []
-  behind : map nextLanguage ((bytes "A.)" ++ (10 ∷ [])) ∷ (bytes "A.)" ++ (10 ∷ 65 ∷ [])) ∷ []) ≡ said 2 ∷ noTail 4 ∷ []
-  -- 8 where the items do not fit, whatever follows
-  steps : map (λ fits. itemsStep fits 1 false (bytes "A.)")) (true ∷ false ∷ []) ≡ said 2 ∷ noTail 8 ∷ []
-  last-step : map (λ rest. itemsStep true 1 true rest) ([] ∷ (65 ∷ []) ∷ []) ≡ said 0 ∷ noTail 4 ∷ []
-  together : joined (record { fits = true; count = 1; items = bareItem letterJ ∷ [] }) (said 2) (bytes "A.)")
-      ≡ record {
-        refusal = 0;
-        items = record { count = 1; items = bareItem letterJ ∷ [] };
-        language =
-            record { length = 2; bytes = bytes "A." ++ replicate 398 0 };
-      }
-  apart : map (λ n. joined (record { fits = true; count = 1; items = bareItem letterJ ∷ [] }) (noTail n) []) (1 ∷ 9 ∷ []) ≡ noRemarks 1 ∷ noRemarks 9 ∷ []
+  ends : map ending (0 ∷ 1 ∷ 2 ∷ []) ≡ 0 ∷ 4 ∷ 4 ∷ []
+  -- the refusal that left the loop, or what was read
+  last : map (λ n. lastAnswer n drifting (bytes "A.")) (0 ∷ 1 ∷ 9 ∷ []) ≡ said (bytes "A.") ∷ noRemarks 1 ∷ noRemarks 9 ∷ []
+  -- 4 where the line is missing or lacks `)`, 9 where it does not fit
+  languages : map (λ s. languageStep drifting (bytes s)) ("" ∷ ")" ∷ "A.)" ∷ "A." ∷ "a.)" ∷ [])
+      ≡ noRemarks 4 ∷ noRemarks 9 ∷ said (bytes "A.") ∷ noRemarks 4 ∷ noRemarks 9 ∷ []
+  after : map (languageStep drifting) ((bytes "A.)" ++ (10 ∷ [])) ∷ (bytes "A.)" ++ (10 ∷ 65 ∷ [])) ∷ []) ≡ said (bytes "A.") ∷ noRemarks 4 ∷ []
+  -- 8 where the items do not fit, whatever follows, and where the awareness line is "empty before `)`"
+  open-line : map (λ fits. behindItems (drift fits) false (bytes "A.)")) (true ∷ false ∷ []) ≡ said (bytes "A.") ∷ noRemarks 8 ∷ []
+  closed-line : map (behindItems (drift true) true) ([] ∷ (65 ∷ []) ∷ []) ≡ said [] ∷ noRemarks 4 ∷ []
+  empty : behindItems (itemsAnswer (got [] [])) true [] ≡ noRemarks 8
+  -- the awareness line: missing, empty before `)`, and empty above plain language
+  first : map itemsStep ([] ∷ bytes ")" ∷ (10 ∷ bytes "A.)") ∷ []) ≡ noRemarks 4 ∷ noRemarks 8 ∷ lastAnswer 0 (makeItems []) (bytes "A.") ∷ []
+  -- and then the plain language
+  steps : map (λ below. nextStep below drifting (bytes "A.)")) (true ∷ false ∷ []) ≡ said (bytes "A.") ∷ itemsStep (bytes "A.)") ∷ []
 
 pub answers : Answers
-unfolding _and_ isMark endSize lineSize lineStep closed allButLast lastIs validLanguage ending lastItems lastLanguage nextLanguage itemsStep joined
+unfolding _and_ isMark endSize lineSize lineStep closed allButLast lastIs validLanguage wholeAwareness readAwareness ending
+    lastAnswer languageStep behindItems itemsStep nextStep
 answers = record {
   no-remarks = refl;
   refused = refl;
   read = refl;
   no-items = refl;
   no-language = refl;
-  no-tail = refl;
   ends = refl;
-  empty = refl;
-  last =
-      refl;
+  last = refl;
   languages = refl;
-  behind = refl;
+  after = refl;
+  open-line = refl;
+  closed-line = refl;
+  empty = refl;
+  first = refl;
   steps = refl;
-  last-step = refl;
-  together = refl;
-  apart = refl;
 }

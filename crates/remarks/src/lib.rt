@@ -12,7 +12,7 @@ ghost use Rattle.items.specs.Awareness.{awarenessPieces};
 ghost use Rattle.text.specs.Out.{finished, more};
 ghost use Rattle.items.specs.Parts.{itemsOf, languageOf, makeLanguage};
 ghost use Rattle.remarks.specs.Remarks.{languageLines, remarkLines, readRemarks};
-ghost use Rattle.remarks.specs.Code.Held.{noRemarks, remarksAnswer, noTail, ending, lastItems, lastLanguage, nextLanguage, itemsStep};
+ghost use Rattle.remarks.specs.Code.Held.{noRemarks, remarksAnswer, ending};
 use awareness::read_awareness;
 use fill::put;
 use fill::told_behind;
@@ -116,72 +116,14 @@ pub fn no_remarks(refusal: u8) -> RemarksRead
     }
 }
 
-// What stands behind the items: how many bytes of plain language, or a refusal. The bytes themselves are kept once, at the end.
-pub struct Tail {
-    pub refusal: u8,
-    pub size: usize,
-}
-
-fn no_tail(refusal: u8) -> Tail
-    ensures { λ t. ⌜ t ≡ noTail refusal ⌝ }
-{
-    Tail { refusal, size: 0 }
-}
-
 // Behind the line that `)` closes: 4 where bytes are left.
-fn ending(size: usize, left: usize) -> Tail
-    ensures { λ t. ⌜ t ≡ ending size left ⌝ }
+fn ending(left: usize) -> u8
+    ensures { λ n. ⌜ n ≡ ending left ⌝ }
 {
     if left == 0 {
-        return Tail { refusal: 0, size };
+        return 0;
     }
-    no_tail(refusal::OUTLINE)
-}
-
-// An awareness line that `)` closes is the last: 8 where it is empty.
-fn last_items(count: u8, left: usize) -> Tail
-    ensures { λ t. ⌜ t ≡ lastItems count left ⌝ }
-{
-    if count == 0 {
-        return no_tail(refusal::WRONG_ITEMS);
-    }
-    ending(0, left)
-}
-
-// Plain language that `)` closes: 9 where it does not fit.
-fn last_language(text: &[u8], left: usize) -> Tail
-    ensures { λ t. ⌜ t ≡ lastLanguage (now (text .entry)) left ⌝ }
-{
-    if valid_language(text) {
-        return ending(text.len(), left);
-    }
-    no_tail(refusal::WRONG_LANGUAGE)
-}
-
-// The line of plain language at the front of `m`: 4 where it is missing, which is an empty line, and at once where it lacks `)`.
-fn next_language(m: &[u8]) -> Tail
-    ensures { λ t. ⌜ t ≡ nextLanguage (now (m .entry)) ⌝ }
-{
-    let line = first_line(m);
-    let size = line.size;
-    let text = text_size(&m[..size]);
-    if text < size {
-        return last_language(&m[..text], m.len() - line.next);
-    }
-    no_tail(refusal::OUTLINE)
-}
-
-// What stands behind an awareness line: `count` items, if it fits, with `rest` behind it; 8 where it does not fit.
-fn items_step(fits: bool, count: u8, closed: bool, rest: &[u8]) -> Tail
-    ensures { λ t. ⌜ t ≡ itemsStep fits count closed (now (rest .entry)) ⌝ }
-{
-    if fits {
-        if closed {
-            return last_items(count, rest.len());
-        }
-        return next_language(rest);
-    }
-    no_tail(refusal::WRONG_ITEMS)
+    refusal::OUTLINE
 }
 
 // Plain language in its array, with zeros behind it.
@@ -197,32 +139,62 @@ fn kept_language(text: &[u8]) -> Language
     }
 }
 
-// What stands behind the rows: nothing where `)` closed them, else `m` below the empty line that ended them, line by line. Where no line follows, the
-// awareness line and the one behind it are empty, and that gives 4.
+// What stands behind the rows: nothing where `)` closed them, else `m` below the empty line that ended them, line by line: the awareness line, and
+// the plain language unless `)` closed that. The first line that does not fit decides. Where no line follows, both are empty, and that gives 4.
 pub fn read_remarks(closed: bool, m: &[u8]) -> RemarksRead
     ensures { λ r. ⌜ r ≡ remarksAnswer (readRemarks (cond closed finished (more (lines (now (m .entry)))))) ⌝ }
 {
     if closed {
         return no_remarks(0);
     }
-    let line = first_line(m);
-    let size = line.size;
-    let next = line.next;
-    let text = text_size(&m[..size]);
-    let read = read_awareness(&m[..text]);
-    let tail = items_step(read.fits, read.count, text < size, &m[next..]);
-    if tail.refusal != 0 {
-        return no_remarks(tail.refusal);
+    let blank = blank_item();
+    let mut items = [blank; 32];
+    let mut count: u8 = 0;
+    // whether the awareness line is read, where the next line starts, and how many bytes of plain language stand there
+    let mut below = false;
+    let mut at: usize = 0;
+    let mut size: usize = 0;
+    let refusal: u8 = 'lines: loop {
+        let start = at;
+        let line = first_line(&m[start..]);
+        let end = start + line.size;
+        let next = start + line.next;
+        let text = text_size(&m[start..end]);
+        let stop = start + text;
+        if below {
+            if end <= stop {
+                break 'lines refusal::OUTLINE;
+            }
+            if !valid_language(&m[start..stop]) {
+                break 'lines refusal::WRONG_LANGUAGE;
+            }
+            size = text;
+            break 'lines ending(m.len() - next);
+        }
+        let read = read_awareness(&m[start..stop]);
+        if !read.fits {
+            break 'lines refusal::WRONG_ITEMS;
+        }
+        let found = read.items;
+        items = found;
+        count = read.count;
+        if stop < end {
+            if count == 0 {
+                break 'lines refusal::WRONG_ITEMS;
+            }
+            break 'lines ending(m.len() - next);
+        }
+        at = next;
+        below = true;
+    };
+    if refusal != 0 {
+        return no_remarks(refusal);
     }
-    let end = next + tail.size;
-    let language = kept_language(&m[next..end]);
-    let items = read.items;
+    let end = at + size;
+    let language = kept_language(&m[at..end]);
     RemarksRead {
         refusal: 0,
-        items: Items {
-            count: read.count,
-            items,
-        },
+        items: Items { count, items },
         language,
     }
 }
