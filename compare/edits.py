@@ -39,7 +39,7 @@ import sys
 ROOT = pathlib.Path(__file__).resolve().parent.parent
 NAMED = ROOT / "compare" / "edits"
 # What stands apart from the definitions in specs/: laws, and what the checker evaluates.
-APART = {"Laws", "Theorems", "Tables", "LineTables", "Edges", "Pins", "Examples", "Lib", "Code"}
+APART = {"Laws", "Theorems", "Demands", "Tables", "LineTables", "Edges", "Pins", "Examples", "Lib", "Code"}
 SWAPS = {"eqb": "ltb", "leb": "ltb", "ltb": "leb", "true": "false", "false": "true", "<": "<=", "<=": "<", "==": "!=",
          "!=": "==", "+": "-"}
 IN_DEFINITIONS = re.compile(r'"(?P<text>[^"]*)"|(?<![\w₀-₉.])(?<!Type )(?P<number>\d+)(?![\w₀-₉])(?! =)|(?<![\w.-])(?P<word>eqb|leb|ltb|true|false)(?![\w-])')

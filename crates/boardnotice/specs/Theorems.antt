@@ -1,37 +1,47 @@
--- What writing a board gives, and that it does not depend on the order of the reports (demand 3).
-use Prim.Native.Nat.{ℕ, _<_, _≤_}
+-- What writing a board gives, and that buffers of one length get the same notice of it, whatever they hold (demand 3).
+use Prim.Native.Nat.{ℕ, _≤_}
 use mathlib.Core.Path.{_≡_, sym, _∙_, ap}
-use mathlib.Core.List.{List, [], List·Permᴰ}
-use mathlib.Core.Bool.{true, false}
-use lib.ListN.{length, getD}
+use mathlib.Core.List.{List, []}
+use mathlib.Core.Bool.{cond, not, Bool, true, false}
+use lib.Dec.{eqb}
+use lib.ListN.{length, take}
+use native.Mathlib.Omega.{arith}
 use Rattle.text.specs.Choice.{isEmpty}
-use Rattle.row.specs.declared.Row.{Row}
 use Rattle.items.specs.declared.Items.{Items}
 use Rattle.items.specs.declared.Language.{Language}
 use Rattle.record.specs.declared.Record.{Record}
 use Rattle.notice.specs.declared.Written.{Written}
 use Rattle.record.specs.Record.{validRecord}
 use Rattle.record.specs.Notice.{noticeText}
-use Rattle.notice.specs.Writing.{unwritten, writing}
-use Rattle.board.specs.declared.Runway.{Runway}
+use Rattle.notice.specs.Writing.{unwritten, writing, written}
+use Rattle.notice.specs.Theorems.{Filled, untouched, wrote-filled}
 use Rattle.board.specs.declared.Board.{Board}
 use Rattle.boardnotice.specs.declared.Details.{Details}
-use Rattle.board.specs.Board.{blankRunway, validBoard, answer, opening}
-use Rattle.board.specs.Report.{reports}
+use Rattle.board.specs.Board.{validBoard}
 use Rattle.boardnotice.specs.Writing.{reported, boardRecord, writingBoard, writtenBoard, WroteBoard}
-use Rattle.board.specs.Shows.{Apart}
 use Rattle.boardnotice.specs.Laws.Writing.{detailsOf, board-written}
-use Rattle.board.specs.Theorems.{order-free}
 
--- boards that were opened alike and got the same reports in another order, of which no two different valid ones for a runway of the list bear the same time:
--- with the same details, items, plain language and buffer they give the same refusal, or the same notice byte for byte
-module _ (a : List ℕ) (n : ℕ) (ws : List Runway) (b : Board) (taken : opening a n ws ≡ answer 0 b) (xs ys : List Row) (moved : List·Permᴰ xs ys)
-    (apart : (i : ℕ) → i < n → Apart (getD ws i blankRunway) xs) (d : Details) (i : Items) (l : Language) where
-  pub same-answer : (room : ℕ) → writingBoard (reports b xs) d i l room ≡ writingBoard (reports b ys) d i l room
-  same-answer room = ap (λ c. writingBoard c d i l room) (order-free a n ws b taken xs ys moved apart)
+-- the board's notice is written: as many bytes as are answered are its text, none where the writing is refused, and then every byte is as before
+pub board-filled : {b : Board} {d : Details} {i : Items} {l : Language} {before after : List ℕ} {w : Written} → WroteBoard b d i l before after w
+    → Filled (noticeText (boardRecord b d i l)) before after w
+unfolding writingBoard writtenBoard
+board-filled {b} {d} {i} {l} {before} {after} {w} p = go (validBoard b) (isEmpty (reported (b .rows))) (p .answer) (p .holds)
+  where
+    r : Record
+    r = boardRecord b d i l
 
-  pub same-bytes : (buffer : List ℕ) → writtenBoard (reports b xs) d i l buffer ≡ writtenBoard (reports b ys) d i l buffer
-  same-bytes buffer = ap (λ c. writtenBoard c d i l buffer) (order-free a n ws b taken xs ys moved apart)
+    go : (t u : Bool) → w ≡ cond t (cond (not u) (writing r (length before)) (unwritten 21)) (unwritten 17)
+        → after ≡ cond t (cond u before (written r before)) before → Filled (noticeText r) before after w
+    go true true e f = untouched (noticeText r) 21 (λ z. omega arith) e f
+    go true false e f = wrote-filled (record { answer = e; holds = f }) .0
+    go false u e f = untouched (noticeText r) 17 (λ z. omega arith) e f
+
+-- so one board gives buffers of one length, whatever they hold, the same answer and the same bytes
+pub one-notice : {b : Board} {d : Details} {i : Items} {l : Language} {x₀ x y₀ y : List ℕ} {v w : Written} → WroteBoard b d i l x₀ x v
+    → WroteBoard b d i l y₀ y w → length x₀ ≡ length y₀ → (v ≡ w) × (take (v .length) x ≡ take (w .length) y)
+one-notice {b} {d} {i} {l} p q e =
+    let same = p .answer ∙ (ap (writingBoard b d i l) e ∙ sym (q .answer)) in
+    (same, board-filled p .front ∙ (ap (λ u. cond (eqb (u .refusal) 0) (noticeText (boardRecord b d i l)) []) same ∙ sym (board-filled q .front)))
 
 -- writing a board: 17, 21, and then the notice of its record with 13, 14
 module _ (b : Board) (d : Details) (i : Items) (l : Language) (room : ℕ) where

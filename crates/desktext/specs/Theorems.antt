@@ -1,7 +1,7 @@
--- How long the desk's text is, and what a buffer with room for it holds.
+-- What the desk prints at the end, how long its text is, and what a buffer with room for it holds.
 use Prim.Native.Nat.{ℕ, zero, suc, _+_, _*_, _≤_}
-use mathlib.Core.Path.{_≡_}
-use mathlib.Core.List.{List, [], _∷_, _++_}
+use mathlib.Core.Path.{_≡_, refl}
+use mathlib.Core.List.{List, [], _∷_, _++_, append-assoc}
 use mathlib.Core.Bool.{cond, Bool, true, false}
 use native.Mathlib.Omega.{arith}
 use lib.Dec.{eqb}
@@ -13,10 +13,28 @@ use Rattle.text.specs.Laws.Put.{put-one, whole-put}
 use Rattle.text.specs.Laws.Sizes.{size, number-size}
 use Rattle.row.specs.declared.Row.{Row}
 use Rattle.board.specs.declared.Board.{Board}
-use Rattle.desktext.specs.Laws.Desk.{shown-size}
+use Rattle.desktext.specs.Laws.Desk.{shown-size, RowsTold, reportLines, lines-report}
 use Rattle.desktext.specs.Line.{shownText, openingLine, reportLine}
-use Rattle.board.specs.Report.{rowAt}
+use Rattle.board.specs.Board.{places, answer}
+use Rattle.board.specs.Report.{rowAt, reports}
 use Rattle.desktext.specs.Desk.{printed, answerLine, shownRows, answersText, refusedText, linesText, deskText}
+
+-- the answers to row lines, one a line
+unfoldable pub answerLines : Board → List (List ℕ) → List ℕ
+answerLines b [] = []
+answerLines b (l ∷ ls) = answerLine (reportLine b l .refusal) ++ answerLines (reportLine b l .board) ls
+
+-- behind them stand the rows that the board shows after the rows told
+answers-shown : (b : Board) (ls : List (List ℕ)) → answersText b ls ≡ answerLines b ls ++ shownRows places (reportLines b ls)
+unfolding answersText answerLines reportLines
+answers-shown b [] = refl
+answers-shown b (l ∷ ls) = rw (append-assoc, answers-shown (reportLine b l .board) ls)
+
+-- so of an input whose first line opens the board b and whose other lines tell the rows rs the desk prints `OPEN`, the answers, and what `reports b rs` shows
+pub desk-prints : (m l : List ℕ) (ls : List (List ℕ)) (b : Board) (rs : List Row) → lines m ≡ l ∷ ls → openingLine l ≡ answer 0 b → RowsTold ls rs
+    → deskText m ≡ printed (bytes "OPEN") ++ (answerLines b ls ++ shownRows places (reports b rs))
+unfolding deskText
+desk-prints m l ls b rs e o t = rw (e, o, answers-shown b ls, lines-report b t)
 
 -- no more lines than bytes
 lines-few : (m : List ℕ) → length (lines m) ≤ length m

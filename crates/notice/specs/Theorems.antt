@@ -2,15 +2,16 @@
 -- freedoms, and that record is the one returned. A written valid record reads back as that record.
 use Prim.Native.Nat.{ℕ, _≤_}
 use mathlib.Core.Path.{_≡_, refl, sym, subst, _∙_, ap}
-use mathlib.Core.List.{List}
+use mathlib.Core.List.{List, [], _++_}
 use mathlib.Core.Bool.{cond, Bool, true, false}
 use mathlib.Core.Logic.{_↔_}
 use lib.Dec.{eqb, leb}
-use lib.ListN.{length}
-use borrow.Author.Tests.{eqb-true, leb-true, le-leb}
+use lib.ListN.{length, take, drop}
+use borrow.Author.Tests.{eqb-true, eqb-false, ne-eqb, leb-true, le-leb}
 use native.Mathlib.Omega.{arith}
 use Rattle.text.specs.Piece.{Typing}
 use Rattle.text.specs.Lines.{lines, ended}
+use Rattle.text.specs.Laws.Arrays.{take-front}
 use Rattle.text.specs.Laws.Typing.{canonical-typed}
 use Rattle.text.specs.Laws.Lines.{lines-sound, lines-complete}
 use Rattle.text.specs.Out.{Out, refuse, taken}
@@ -21,8 +22,8 @@ use Rattle.record.specs.Record.{validRecord, blankRecord}
 use Rattle.record.specs.Notice.{noticeLines, notice, noticeText}
 use Rattle.notice.specs.Reading.{readNotice, result, reading}
 use Rattle.record.specs.Answer.{accepted, refused}
-use Rattle.notice.specs.Writing.{unwritten, writing, Wrote}
-use Rattle.notice.specs.Rewriting.{rewriting, Rewrote}
+use Rattle.notice.specs.Writing.{unwritten, writing, written, Wrote}
+use Rattle.notice.specs.Rewriting.{rewriting, rewritten, Rewrote}
 use Rattle.notice.specs.Same.{TellSame, SaysSame}
 use Rattle.notice.specs.Laws.Parts.{made, partLines, partsOf, lines-are, parts-kept, good-valid, valid-good, made-back}
 use Rattle.notice.specs.Laws.Lines.{notice-sound, notice-complete, notice-numbered, lines-inline}
@@ -135,6 +136,49 @@ never-invalid m room = go (eqb (reading m .refusal) 0) refl
         let r = reading m .«record» in
         answered (leb (length (noticeText r)) room) (length (noticeText r)) (rw (read-valid m (reading m) refl (eqb-true (reading m .refusal) 0 e)) at f)
     go false e f = omega (arith, refusal-range m)
+
+-- a text is written: as many bytes as are answered are the text, none where the writing is refused, and then every byte of the buffer is as before
+pub record Filled (text before after : List ℕ) (w : Written) : Type 0 where
+  pub front : take (w .length) after ≡ cond (eqb (w .refusal) 0) text []
+  pub refused : (w .refusal ≡ 0 → ⊥) → (after ≡ before) × (w .length ≡ 0)
+
+-- so it is where the writing is refused and touches nothing
+pub untouched : (text : List ℕ) {b x : List ℕ} {w : Written} (n : ℕ) → (n ≡ 0 → ⊥) → w ≡ unwritten n → x ≡ b → Filled text b x w
+untouched text n h e f = record { front = rw (e, ne-eqb n 0 h); refused = λ k. (f, ap (λ v. v .length) e) }
+
+-- so is the text of a record, and only where the record is valid
+pub wrote-filled : {r : Record} {b x : List ℕ} {w : Written} → Wrote r b x w → Filled (noticeText r) b x w × (w .refusal ≡ 0 → validRecord r ≡ true)
+unfolding writing written
+wrote-filled {r} {b} {x} {w} p = go (validRecord r) (leb (length text) (length b)) (p .answer) (p .holds)
+  where
+    text : List ℕ
+    text = noticeText r
+
+    go : (t u : Bool) → w ≡ cond t (cond u (record { refusal = 0; length = length text }) (unwritten 14)) (unwritten 13)
+        → x ≡ cond t (cond u (text ++ drop (length text) b) b) b → Filled text b x w × (w .refusal ≡ 0 → t ≡ true)
+    go true true e f = (record { front = rw (e, f) (take-front text (drop (length text) b)); refused = λ k. absurd (k (ap (λ v. v .refusal) e)) }, λ z. refl)
+    go true false e f = (untouched text 14 (λ z. omega arith) e f, λ z. refl)
+    go false u e f = (untouched text 13 (λ z. omega arith) e f, λ z. let k = ap (λ v. v .refusal) e in absurd (omega arith))
+
+-- and that of a message written anew
+pub rewrote-filled : {m b x : List ℕ} {w : Written} → Rewrote m b x w → Filled (noticeText (reading m .«record»)) b x w
+unfolding rewriting rewritten
+rewrote-filled {m} {b} {x} {w} p = go (eqb (reading m .refusal) 0) refl (p .answer) (p .holds)
+  where
+    r : Record
+    r = reading m .«record»
+
+    go : (t : Bool) → eqb (reading m .refusal) 0 ≡ t → w ≡ cond t (writing r (length b)) (unwritten (reading m .refusal)) → x ≡ cond t (written r b) b
+        → Filled (noticeText r) b x w
+    go true q e f = wrote-filled (record { answer = e; holds = f }) .0
+    go false q e f = untouched (noticeText r) (reading m .refusal) (eqb-false (reading m .refusal) 0 q) e f
+
+-- a valid record is never refused where there is room for 4,096 bytes
+pub never-refused : {r : Record} {b x : List ℕ} {w : Written} → Wrote r b x w → validRecord r ≡ true → 4096 ≤ length b → w .refusal ≡ 0
+unfolding writing
+never-refused {r} {b} p v room =
+    let fits = never-too-long r v in
+    ap (λ w. w .refusal) (p .answer) ∙ rw (v, le-leb (length (noticeText r)) (length b) (omega arith))
 
 -- two messages are typings of one valid record's notice, of at most 4,096 bytes each
 pub record OneNotice (a b : List ℕ) : Type 0 where

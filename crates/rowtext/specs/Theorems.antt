@@ -1,10 +1,11 @@
 -- What is shown of reading and writing a runway row.
 use Prim.Native.Nat.{ℕ, _≤_}
-use mathlib.Core.Path.{_≡_, refl, sym, _∙_, ap}
+use mathlib.Core.Path.{_≡_, refl, sym, subst, _∙_, ap}
 use mathlib.Core.List.{List, []}
-use mathlib.Core.Bool.{true}
+use mathlib.Core.Bool.{Bool, true, false}
 use native.Mathlib.Omega.{arith}
 use lib.ListN.{length}
+use borrow.Author.Tests.{le-leb, lt-leb}
 use Rattle.text.specs.Piece.{Typing, canonical}
 use Rattle.text.specs.Read.{Got, misfit, got}
 use Rattle.text.specs.Laws.Base.{carry}
@@ -78,6 +79,25 @@ row-back r h = rw h (row-complete (canonical (rowPieces r)) r (record { valid = 
 -- a row's text has at most 147 bytes
 pub row-short : (r : Row) → length (rowText r) ≤ 147
 row-short = text-size
+
+-- a row that is not valid, or whose text does not fit, is refused: no byte is touched, and 0 is answered
+no-text : (r : Row) → validRow r ≡ false → rowText r ≡ []
+unfolding rowText
+no-text r e = rw e
+
+pub refused-untouched : (r : Row) {before after : List ℕ} {n : ℕ} → WroteRow (rowText r) before after n
+    → (validRow r ≡ true → length (rowText r) ≤ length before → ⊥) → (after ≡ before) × (n ≡ 0)
+refused-untouched r {before} {after} {n} p unfit = go (validRow r) refl
+  where
+    go : (t : Bool) → validRow r ≡ t → (after ≡ before) × (n ≡ 0)
+    go false e =
+        let q = subst (λ t. WroteRow t before after n) (no-text r e) p in
+        let k = le-leb 0 (length before) (omega arith) in
+        (q .holds ∙ rw k, q .filled ∙ rw k)
+    go true e =
+        let long = unfit e in
+        let k = lt-leb (length (rowText r)) (length before) (omega arith) in
+        (p .holds ∙ rw k, p .filled ∙ rw k)
 
 -- the promise of writing leaves no choice: the answer and every byte; that of putting is `put-one` of text, and the others are equations
 pub wrote-one : {t before x y : List ℕ} {r s : ℕ} → WroteRow t before x r → WroteRow t before y s → (r ≡ s) × (x ≡ y)

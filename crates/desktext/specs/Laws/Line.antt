@@ -32,7 +32,7 @@ use Rattle.frontlines.specs.Laws.Letters.{letters-laws}
 use Rattle.board.specs.declared.Runway.{Runway}
 use Rattle.board.specs.declared.Board.{Board}
 use Rattle.board.specs.Board.{places, blankRunway, isBlankRunway, isAerodrome, rises, rising, validList, fitsPlace, runwaysOf, validBoard, fresh, answer}
-use Rattle.board.specs.Board.{opening}
+use Rattle.board.specs.Board.{opening, refusedOpening}
 use Rattle.board.specs.Report.{rowAt}
 use Rattle.board.specs.Shows.{nothing, row, shownAt}
 use Rattle.board.specs.Laws.Rules.{blank-invalid, rules, used, fit-at}
@@ -95,24 +95,38 @@ blank-is : isBlankRunway blankRunway ≡ true
 unfolding isBlankRunway _and_
 blank-is = refl
 
--- a line that opens a board is the text of its aerodrome and runways
-pub line-sound : (line : List ℕ) (b : Board) → openingLine line ≡ answer 0 b → Typing (openingPieces (b .aerodrome) (runwaysOf b)) line
+-- the line is the text of an aerodrome and runways that opening takes, with the board b
+pub record Opens (line : List ℕ) (b : Board) : Type 0 where
+  pub aerodrome : List ℕ
+  pub count : ℕ
+  pub runways : List Runway
+  pub opened : opening aerodrome count runways ≡ answer 0 b
+  pub text : Typing (openingPieces aerodrome (take count runways)) line
+
+-- a line that opens a board is such a text
+pub line-sound : (line : List ℕ) (b : Board) → openingLine line ≡ answer 0 b → Opens line b
 unfolding openingLine
 line-sound line b e = go (whole (readOpening line)) refl e
   where
-    go : (g : Got (List ℕ × List Runway)) → whole (readOpening line) ≡ g → openingRead g ≡ answer 0 b → Typing (openingPieces (b .aerodrome) (runwaysOf b)) line
+    go : (g : Got (List ℕ × List Runway)) → whole (readOpening line) ≡ g → openingRead g ≡ answer 0 b → Opens line b
     go misfit q f = let z = ap (λ x. x .refusal) f in absurd (omega arith)
-    go (got p r) q f =
-        let o = was-opened (p .0) (length (p .1)) (pad places blankRunway (p .1)) b f .0 in
-        let t = whole-sound opening-laws {m = line} q .1 in
-        subst (λ c. Typing (openingPieces (c .aerodrome) (runwaysOf c)) line) (sym o)
-        (rw (take-front (p .1) (replicate (places - length (p .1)) blankRunway)) t)
+    go (got p r) q f = record {
+      aerodrome = p .0;
+      count = length (p .1);
+      runways = pad places blankRunway (p .1);
+      opened = f;
+      text = rw (take-front (p .1) (replicate (places - length (p .1)) blankRunway)) (whole-sound opening-laws {m = line} q .1);
+    }
 
--- the text of an aerodrome and a list that opening takes opens that board
-pub line-complete : (line a : List ℕ) (n : ℕ) (ws : List Runway) → validList a n ws ≡ true → Typing (openingPieces a (take n ws)) line
-    → openingLine line ≡ answer 0 (fresh a n ws)
-unfolding openingLine opening validList isAerodrome
-line-complete line a n ws h t =
+-- and such a text opens its board
+pub line-complete : (line : List ℕ) (b : Board) → Opens line b → openingLine line ≡ answer 0 b
+unfolding openingLine validList isAerodrome
+line-complete line b w =
+    let a = w .aerodrome in
+    let n = w .count in
+    let ws = w .runways in
+    let (f, v) = was-opened a n ws b (w .opened) in
+    let h : validList a n ws ≡ true = subst (λ c. validList (c .aerodrome) (c .count) (c .runways) ≡ true) f (rules b v .list) in
     let h₁ = and-2 _ _ h in
     let h₂ = and-2 _ _ h₁ in
     let h₃ = and-2 _ _ h₂ in
@@ -120,9 +134,23 @@ line-complete line a n ws h t =
     let few = leb-true n places (and-1 _ _ h₂) in
     let k = array-back blankRunway isBlankRunway blank-runway blank-is places n ws few (eqb-true (length ws) places (and-1 _ _ h₃)) (and-2 _ _ h₄) in
     let s = k .0 in
-    let o : opening a n ws ≡ answer 0 (fresh a n ws) = rw h in
-    rw (whole-complete opening-laws (a, take n ws) {m = line} (and-1 _ _ h, (omega arith, all-written blankRunway (take n ws) (and-1 _ _ h₄))) t)
-    ((λ i. opening a (k .0 i) (k .1 i)) ∙ o)
+    rw (whole-complete opening-laws (a, take n ws) {m = line} (and-1 _ _ h, (omega arith, all-written blankRunway (take n ws) (and-1 _ _ h₄))) (w .text))
+    ((λ i. opening a (k .0 i) (k .1 i)) ∙ w .opened)
+
+-- any other line is refused as a wrong list is
+pub line-refused : (line : List ℕ) → ((b : Board) → Opens line b → ⊥) → openingLine line ≡ refusedOpening
+unfolding openingLine opening
+line-refused line none = go (whole (readOpening line)) refl
+  where
+    settled : (t : Bool) (b : Board) → openingLine line ≡ cond t (answer 0 b) refusedOpening → cond t (answer 0 b) refusedOpening ≡ refusedOpening
+    settled true b e = absurd (none b (line-sound line b e))
+    settled false b e = refl
+
+    go : (g : Got (List ℕ × List Runway)) → openingRead (whole (readOpening line)) ≡ openingRead g → openingRead g ≡ refusedOpening
+    go misfit e = refl
+    go (got p r) e =
+        let ws = pad places blankRunway (p .1) in
+        settled (validList (p .0) (length (p .1)) ws) (fresh (p .0) (length (p .1)) ws) e
 
 -- a place that shows a row holds that row, and it is valid
 pub shown-row : (b : Board) → validBoard b ≡ true → (i : ℕ) → i < b .count → (r : Row) → shownAt b i ≡ row r → (validRow r ≡ true) × (rowAt b i ≡ r)

@@ -1,0 +1,414 @@
+-- The three demands, clause by clause and in their order. What a theorem assumes is what public functions promise, as their `ensures` say it; what it
+-- concludes is the clause that is quoted above it, behind which stands the function.
+use Prim.Native.Nat.{ℕ, _<_, _≤_, _+_, _*_}
+use mathlib.Core.Path.{_≡_, refl, sym, subst, _∙_, ap}
+use mathlib.Core.List.{List, [], _∷_, _++_, List·Permᴰ}
+use mathlib.Core.Bool.{cond, not, Bool, true, false}
+use mathlib.Core.Logic.{_↔_}
+use native.Mathlib.Omega.{arith}
+use lib.Dec.{eqb, leb, ltb}
+use lib.ListN.{length, take, drop, getD}
+use borrow.Author.Tests.{eqb-true, lt-ltb, le-ltb}
+use Rattle.text.specs.Choice.{member, isEmpty}
+use Rattle.text.specs.Piece.{bytes}
+use Rattle.text.specs.Lines.{lines}
+use Rattle.text.specs.Put.{Put}
+use Rattle.text.specs.Arrays.{pad}
+use Rattle.text.specs.Read.{Got, misfit, got, whole}
+use Rattle.text.specs.Laws.Arrays.{take-front}
+use Rattle.text.specs.Refusals.{tooLong, lineOneOrTwo, lineThree, outline, noRow, ninthRow, runwayTwice, wrongItems, wrongLanguage, serialsDiffer}
+use Rattle.text.specs.Refusals.{aerodromesDiffer, notLatestTime, invalidRecord, bufferTooShort, outOfRange, contradiction, wrongBoard, notOnBoard, invalidRow}
+use Rattle.text.specs.Refusals.{notLater, noReport}
+use Rattle.surface.specs.declared.Observation.{Observation}
+use Rattle.surface.specs.declared.Assessment.{Assessment}
+use Rattle.surface.specs.Descriptions.{notReported, dry}
+use Rattle.surface.specs.Third.{third}
+use Rattle.surface.specs.Table1.{codeFor}
+use Rattle.surface.specs.Assess.{inRange, contradictory, leastCover, coverageFor, uncovered, reportedKind, reportedDepth, covered, assessed, assessedAs}
+use Rattle.surface.specs.Assess.{refusedAssessing, assessing}
+use Rattle.row.specs.declared.Row.{Row}
+use Rattle.row.specs.declared.Agreement.{Agreement}
+use Rattle.row.specs.Row.{validRow}
+use Rattle.row.specs.Agreement.{agreement}
+use Rattle.rowtext.specs.Reading.{wholeRow}
+use Rattle.rowtext.specs.Writing.{rowText, WroteRow}
+use Rattle.rowtext.specs.Theorems as RowText
+use Rattle.items.specs.declared.Items.{Items}
+use Rattle.items.specs.declared.Language.{Language}
+use Rattle.record.specs.declared.Record.{Record}
+use Rattle.record.specs.declared.Reading.{Reading}
+use Rattle.record.specs.Record.{validRecord, blankRecord}
+use Rattle.record.specs.Notice.{noticeText}
+use Rattle.record.specs.Answer.{accepted}
+use Rattle.notice.specs.declared.Written.{Written}
+use Rattle.notice.specs.Reading.{reading}
+use Rattle.notice.specs.Writing.{unwritten, writing, Wrote}
+use Rattle.notice.specs.Rewriting.{rewriting, Rewrote}
+use Rattle.notice.specs.Laws.Reading.{among}
+use Rattle.notice.specs.Theorems as Notice
+use Rattle.notice.specs.Theorems.{Told}
+use Rattle.board.specs.declared.Runway.{Runway}
+use Rattle.board.specs.declared.Board.{Board}
+use Rattle.board.specs.declared.Answer.{Answer}
+use Rattle.board.specs.Board.{places, blankRunway, runwaysOf, validList, validBoard, blankBoard, answer, opening}
+use Rattle.board.specs.Report.{placeOf, rowAt, isNews, report, reports}
+use Rattle.board.specs.Shows.{nothing, shownAt, _isIn_, ReportFor, Shows, shows-none, Apart}
+use Rattle.board.specs.Laws.Shows.{shows-one}
+use Rattle.board.specs.Theorems as Board
+use Rattle.boardnotice.specs.declared.Details.{Details}
+use Rattle.boardnotice.specs.Writing.{reported, boardRecord, writingBoard, WroteBoard}
+use Rattle.boardnotice.specs.Theorems as BoardNotice
+use Rattle.desktext.specs.Line.{readOpening, openingRead, openingLine, reportRead, reportLine}
+use Rattle.desktext.specs.Desk.{printed, shownRows, deskText}
+use Rattle.desktext.specs.Laws.Line.{Opens}
+use Rattle.desktext.specs.Laws.Desk.{line-opens, no-opening, RowsTold, lines-tell, reportLines, lines-report}
+use Rattle.desktext.specs.Theorems as Desk
+use Rattle.desktext.specs.Theorems.{answerLines}
+
+-- ---- Demand 1
+
+-- 0, which is taken, or one of the numbers
+abbrev pub _takenOrRefusedBy_ : ℕ → List ℕ → Type 0
+n takenOrRefusedBy ns = member (0 ∷ ns) n ≡ true
+
+infixr 20 _takenOrRefusedBy_
+-- reading a message: 1 to 12
+abbrev pub readingRefusals : List ℕ
+readingRefusals =
+    tooLong ∷ lineOneOrTwo ∷ lineThree ∷ outline ∷ noRow ∷ ninthRow ∷ runwayTwice ∷ wrongItems ∷ wrongLanguage
+    ∷ serialsDiffer ∷ aerodromesDiffer ∷ notLatestTime ∷ []
+
+-- "Assessing: 15, 16"
+abbrev pub assessingRefusals : List ℕ
+assessingRefusals = outOfRange ∷ contradiction ∷ []
+
+-- "Report: 17, 19, 18, 20"
+abbrev pub reportRefusals : List ℕ
+reportRefusals = wrongBoard ∷ invalidRow ∷ notOnBoard ∷ notLater ∷ []
+
+-- writing a record: 13, 14
+abbrev pub writingRefusals : List ℕ
+writingRefusals = invalidRecord ∷ bufferTooShort ∷ []
+
+-- "Writing a board: 17, 21, 13, 14"
+abbrev pub boardRefusals : List ℕ
+boardRefusals = wrongBoard ∷ noReport ∷ writingRefusals
+
+-- what holds of both answers holds whatever the test says
+either : {A : Type 0} (P : A → Type 0) (t : Bool) {a b : A} → P a → P b → P (cond t a b)
+either P true p q = p
+either P false p q = q
+
+-- and a further number may be named
+or-by : (k : ℕ) (ns : List ℕ) (n : ℕ) → n takenOrRefusedBy ns → n takenOrRefusedBy (k ∷ ns)
+or-by k ns n h = go (eqb 0 n) (eqb k n) h
+  where
+    go : (t u : Bool) → cond t true (member ns n) ≡ true → cond t true (cond u true (member ns n)) ≡ true
+    go true u g = refl
+    go false true g = refl
+    go false false g = g
+
+-- "Every message .. is taken or refused by number": `read`
+pub message-by-number : (m : List ℕ) (a : Reading) → a ≡ reading m → a .refusal takenOrRefusedBy readingRefusals
+message-by-number m a e = rw e (among 13 0 (reading m .refusal) (omega arith) (omega (arith, Notice.refusal-range m)))
+
+-- `rewrite`: the same, and 14
+pub rewriting-by-number : {m before after : List ℕ} {w : Written} → Rewrote m before after w → w .refusal takenOrRefusedBy (bufferTooShort ∷ readingRefusals)
+unfolding rewriting writing
+rewriting-by-number {m} {before} {after} {w} p = rw (p .answer) (go (eqb (reading m .refusal) 0) refl)
+  where
+    Named : Written → Type 0
+    Named v = v .refusal takenOrRefusedBy (bufferTooShort ∷ readingRefusals)
+
+    go : (t : Bool) → eqb (reading m .refusal) 0 ≡ t → Named (cond t (writing (reading m .«record») (length before)) (unwritten (reading m .refusal)))
+    go true e =
+        rw (Notice.read-valid m (reading m) refl (eqb-true (reading m .refusal) 0 e))
+        (either Named (leb (length (noticeText (reading m .«record»))) (length before)) refl refl)
+    go false e = or-by bufferTooShort readingRefusals (reading m .refusal) (message-by-number m (reading m) refl)
+
+-- "Every .. observation ..": `assess`
+pub observation-by-number : (o : Observation) (a : Assessment) → a ≡ assessing o → a .refusal takenOrRefusedBy assessingRefusals
+unfolding assessing
+observation-by-number o a e = rw e (either Named (inRange o) (either Named (not (contradictory o)) refl refl) refl)
+  where
+    Named : Assessment → Type 0
+    Named x = x .refusal takenOrRefusedBy assessingRefusals
+
+-- a row's agreement, `disagreeing`: 19
+pub agreement-by-number : (r : Row) (a : Agreement) → a ≡ agreement r → a .refusal takenOrRefusedBy (invalidRow ∷ [])
+unfolding agreement
+agreement-by-number r a e = rw e (either (λ (x : Agreement). x .refusal takenOrRefusedBy (invalidRow ∷ [])) (validRow r) refl refl)
+
+-- opening a board, `open`: 17
+pub opening-by-number : (aerodrome : List ℕ) (count : ℕ) (runways : List Runway) (a : Answer) → a ≡ opening aerodrome count runways
+    → a .refusal takenOrRefusedBy (wrongBoard ∷ [])
+unfolding opening
+opening-by-number aerodrome count runways a e =
+    rw e (either (λ (x : Answer). x .refusal takenOrRefusedBy (wrongBoard ∷ [])) (validList aerodrome count runways) refl refl)
+
+-- and by a line, `open_line`
+pub opening-line-by-number : (l : List ℕ) (a : Answer) → a ≡ openingLine l → a .refusal takenOrRefusedBy (wrongBoard ∷ [])
+unfolding openingLine
+opening-line-by-number l a e = rw e (go (whole (readOpening l)))
+  where
+    go : (g : Got (List ℕ × List Runway)) → openingRead g .refusal takenOrRefusedBy (wrongBoard ∷ [])
+    go misfit = refl
+    go (got p k) = opening-by-number (p .0) (length (p .1)) (pad places blankRunway (p .1)) (openingRead (got p k)) refl
+
+-- "Every .. report ..": `report`, and `updated`
+pub report-by-number : (b : Board) (r : Row) (a : Answer) → a ≡ report b r → a .refusal takenOrRefusedBy reportRefusals
+unfolding report
+report-by-number b r a e =
+    let i = placeOf r (runwaysOf b) in
+    rw e (either Named (validBoard b) (either Named (validRow r) (either Named (ltb i (b .count))
+    (either Named (isNews r (rowAt b i)) refl refl) refl) refl) refl)
+  where
+    Named : Answer → Type 0
+    Named x = x .refusal takenOrRefusedBy reportRefusals
+
+-- `take_report`, on the board that it is lent
+pub step-by-number : (b c : Board) (r : Row) (n : ℕ) → (c ≡ report b r .board) × (n ≡ report b r .refusal) → n takenOrRefusedBy reportRefusals
+step-by-number b c r n p = rw (p .1) (report-by-number b r (report b r) refl)
+
+-- `report_line`: 5 too, where the line is no row
+pub line-by-number : (b : Board) (l : List ℕ) (a : Answer) → a ≡ reportLine b l → a .refusal takenOrRefusedBy (noRow ∷ reportRefusals)
+unfolding reportLine
+line-by-number b l a e = rw e (either Named (leb (length l) 4096) (go (wholeRow l)) refl)
+  where
+    Named : Answer → Type 0
+    Named x = x .refusal takenOrRefusedBy (noRow ∷ reportRefusals)
+
+    go : (g : Got Row) → Named (reportRead b g)
+    go misfit = refl
+    go (got r k) = or-by noRow reportRefusals (report b r .refusal) (report-by-number b r (report b r) refl)
+
+-- "Every .. record ..": `write`
+pub record-by-number : {r : Record} {before after : List ℕ} {w : Written} → Wrote r before after w → w .refusal takenOrRefusedBy writingRefusals
+unfolding writing
+record-by-number {r} {before} p = rw (p .answer) (either Named (validRecord r) (either Named (leb (length (noticeText r)) (length before)) refl refl) refl)
+  where
+    Named : Written → Type 0
+    Named w = w .refusal takenOrRefusedBy writingRefusals
+
+-- a board written, `write_board`
+pub board-by-number : {b : Board} {d : Details} {i : Items} {l : Language} {before after : List ℕ} {w : Written} → WroteBoard b d i l before after w
+    → w .refusal takenOrRefusedBy boardRefusals
+unfolding writingBoard writing
+board-by-number {b} {d} {i} {l} {before} p =
+    let r = boardRecord b d i l in
+    rw (p .answer) (either Named (validBoard b) (either Named (not (isEmpty (reported (b .rows))))
+    (either Named (validRecord r) (either Named (leb (length (noticeText r)) (length before)) refl refl) refl) refl) refl)
+  where
+    Named : Written → Type 0
+    Named w = w .refusal takenOrRefusedBy boardRefusals
+
+-- "A refused reading yields the blank record"
+pub refused-reading : (m : List ℕ) (a : Reading) → a ≡ reading m → (a .refusal ≡ 0 → ⊥) → a .«record» ≡ blankRecord
+refused-reading m a e h = ap (λ x. x .«record») e ∙ Notice.refused-blank m (λ z. h (ap (λ x. x .refusal) e ∙ z))
+
+-- "a refused report leaves the board as before"
+pub refused-report : (b : Board) (r : Row) (a : Answer) → a ≡ report b r → (a .refusal ≡ 0 → ⊥) → a .board ≡ b
+refused-report b r a e h = ap (λ x. x .board) e ∙ Board.refused-stays b r (λ z. h (ap (λ x. x .refusal) e ∙ z))
+
+-- and so does `take_report`, on the board that it is lent
+pub refused-step : (b c : Board) (r : Row) (n : ℕ) → (c ≡ report b r .board) × (n ≡ report b r .refusal) → (n ≡ 0 → ⊥) → c ≡ b
+refused-step b c r n p h = p .0 ∙ Board.refused-stays b r (λ z. h (p .1 ∙ z))
+
+-- and so does `report_line`
+pub refused-report-line : (b : Board) (l : List ℕ) (a : Answer) → a ≡ reportLine b l → (a .refusal ≡ 0 → ⊥) → a .board ≡ b
+unfolding reportLine
+refused-report-line b l a e h =
+    ap (λ x. x .board) e ∙ either Kept (leb (length l) 4096) (go (wholeRow l)) (λ k. refl) (λ z. h (ap (λ x. x .refusal) e ∙ z))
+  where
+    Kept : Answer → Type 0
+    Kept x = (x .refusal ≡ 0 → ⊥) → x .board ≡ b
+
+    go : (g : Got Row) → Kept (reportRead b g)
+    go misfit = λ k. refl
+    go (got r m) = refused-report b r (report b r) refl
+
+-- "a refused writing touches no byte of the buffer", and answers length 0: `write`
+pub refused-writing : {r : Record} {before after : List ℕ} {w : Written} → Wrote r before after w → (w .refusal ≡ 0 → ⊥) → (after ≡ before) × (w .length ≡ 0)
+refused-writing p = Notice.wrote-filled p .0 .refused
+
+-- `rewrite`
+pub refused-rewriting : {m before after : List ℕ} {w : Written} → Rewrote m before after w → (w .refusal ≡ 0 → ⊥) → (after ≡ before) × (w .length ≡ 0)
+refused-rewriting p = Notice.rewrote-filled p .refused
+
+-- `write_board`
+pub refused-board-writing : {b : Board} {d : Details} {i : Items} {l : Language} {before after : List ℕ} {w : Written} → WroteBoard b d i l before after w
+    → (w .refusal ≡ 0 → ⊥) → (after ≡ before) × (w .length ≡ 0)
+refused-board-writing p = BoardNotice.board-filled p .refused
+
+-- `write_row`, which answers a length alone: a row that is not valid, or does not fit
+pub refused-row-writing : (r : Row) {before after : List ℕ} {n : ℕ} → WroteRow (rowText r) before after n
+    → (validRow r ≡ true → length (rowText r) ≤ length before → ⊥) → (after ≡ before) × (n ≡ 0)
+refused-row-writing = RowText.refused-untouched
+
+-- a "refused assessing" reports "a third of code 0 with all NR": `assess`
+pub refused-assessing : (o : Observation) (a : Assessment) → a ≡ assessing o → (a .refusal ≡ 0 → ⊥) → a .third ≡ third 0 notReported notReported notReported
+unfolding assessing
+refused-assessing o a e h =
+    ap (λ x. x .third) e ∙ either Blank (inRange o) (either Blank (not (contradictory o)) (λ k. absurd (k refl)) (λ k. refl)) (λ k. refl)
+    (λ z. h (ap (λ x. x .refusal) e ∙ z))
+  where
+    Blank : Assessment → Type 0
+    Blank x = (x .refusal ≡ 0 → ⊥) → x .third ≡ third 0 notReported notReported notReported
+
+-- "A refused opening yields the blank board": `open`
+pub refused-opening : (aerodrome : List ℕ) (count : ℕ) (runways : List Runway) (a : Answer) → a ≡ opening aerodrome count runways → (a .refusal ≡ 0 → ⊥)
+    → a .board ≡ blankBoard
+unfolding opening
+refused-opening aerodrome count runways a e h =
+    ap (λ x. x .board) e ∙ either Blank (validList aerodrome count runways) (λ k. absurd (k refl)) (λ k. refl) (λ z. h (ap (λ x. x .refusal) e ∙ z))
+  where
+    Blank : Answer → Type 0
+    Blank x = (x .refusal ≡ 0 → ⊥) → x .board ≡ blankBoard
+
+-- and by a line, `open_line`
+pub refused-opening-line : (l : List ℕ) (a : Answer) → a ≡ openingLine l → (a .refusal ≡ 0 → ⊥) → a .board ≡ blankBoard
+unfolding openingLine
+refused-opening-line l a e h = ap (λ x. x .board) e ∙ go (whole (readOpening l)) (λ z. h (ap (λ x. x .refusal) e ∙ z))
+  where
+    go : (g : Got (List ℕ × List Runway)) → (openingRead g .refusal ≡ 0 → ⊥) → openingRead g .board ≡ blankBoard
+    go misfit k = refl
+    go (got p m) k = refused-opening (p .0) (length (p .1)) (pad places blankRunway (p .1)) (openingRead (got p m)) refl k
+
+-- "An invalid row is refused (19, count 0)": `disagreeing`
+pub refused-agreement : (r : Row) (a : Agreement) → a ≡ agreement r → (a .refusal ≡ 0 → ⊥) → a .count ≡ 0
+unfolding agreement
+refused-agreement r a e h = ap (λ x. x .count) e ∙ either Blank (validRow r) (λ k. absurd (k refl)) (λ k. refl) (λ z. h (ap (λ x. x .refusal) e ∙ z))
+  where
+    Blank : Agreement → Type 0
+    Blank x = (x .refusal ≡ 0 → ⊥) → x .count ≡ 0
+
+-- ---- Demand 2
+
+-- "A written valid record reads back as that record": `write`, and then `read` of as many bytes as it answered
+pub reads-back : {r : Record} {before after : List ℕ} {w : Written} → Wrote r before after w → w .refusal ≡ 0 → (a : Reading)
+    → a ≡ reading (take (w .length) after) → a ≡ accepted r
+reads-back {r} {before} {after} {w} p z a e =
+    let (filled, valid) = Notice.wrote-filled p in
+    e ∙ (ap reading (filled .front ∙ ap (λ n. cond (eqb n 0) (noticeText r) []) z) ∙ Notice.back r (valid z))
+
+-- and a valid record is never refused where there is room for 4,096 bytes
+pub valid-is-written : {r : Record} {before after : List ℕ} {w : Written} → Wrote r before after w → validRecord r ≡ true → 4096 ≤ length before
+    → w .refusal ≡ 0
+valid-is-written = Notice.never-refused
+
+-- "A message of at most 4,096 bytes is accepted exactly when some valid record's text differs from it only by the four freedoms": `read`
+pub accepted-exactly : (m : List ℕ) (a : Reading) → a ≡ reading m → length m ≤ 4096 → (a .refusal ≡ 0) ↔ Told m
+accepted-exactly m a e l = rw e (Notice.exactly m l)
+
+-- "and that record is the one returned"
+pub that-record : (m : List ℕ) (a : Reading) → a ≡ reading m → length m ≤ 4096 → (t : Told m) → a ≡ accepted (t .tells)
+that-record m a e l t = e ∙ Notice.complete m (t .tells) (t .valid) (t .typed) l
+
+-- what the tables give: below 10 per cent of cover code 6, NR, NR, and DRY or NR; from there on the code by Table 1 of the kind that is reported,
+-- its coverage and its depth
+pub record AsTheTables (o : Observation) (a : Assessment) : Type 0 where
+  pub taken : a .refusal ≡ 0
+  pub bare : o .cover < leastCover → a .third ≡ third 6 notReported notReported (cond (eqb (o .kind) dry) dry notReported)
+  pub code : leastCover ≤ o .cover → a .third .code ≡ codeFor (reportedKind o) o
+  pub coverage : leastCover ≤ o .cover → a .third .coverage ≡ coverageFor (o .cover)
+  pub depth : leastCover ≤ o .cover → a .third .depth ≡ reportedDepth (reportedKind o) (o .depth)
+  pub description : leastCover ≤ o .cover → a .third .description ≡ reportedKind o
+
+-- "Assessment gives the code, coverage, depth and description that the tables give": `assess`
+pub assessed-by-tables : (o : Observation) (a : Assessment) → a ≡ assessing o → inRange o ≡ true → contradictory o ≡ false → AsTheTables o a
+unfolding assessing assessed uncovered covered
+assessed-by-tables o a e v c = record {
+  taken = ap (λ x. x .refusal) is;
+  bare = λ l. ap (λ x. x .third) is ∙ rw (lt-ltb (o .cover) leastCover l);
+  code = λ l. ap (λ x. x .code) (from-ten l);
+  coverage = λ l. ap (λ x. x .coverage) (from-ten l);
+  depth = λ l. ap (λ x. x .depth) (from-ten l);
+  description = λ l. ap (λ x. x .description) (from-ten l);
+}
+  where
+    is : a ≡ assessedAs (assessed o)
+    is = e ∙ rw (v, c)
+
+    from-ten : leastCover ≤ o .cover → a .third ≡ covered (reportedKind o) o
+    from-ten l = ap (λ x. x .third) is ∙ rw (le-ltb (o .cover) leastCover l)
+
+-- 15 where the observation is out of range
+pub out-of-range : (o : Observation) (a : Assessment) → a ≡ assessing o → inRange o ≡ false → a ≡ refusedAssessing outOfRange
+unfolding assessing
+out-of-range o a e v = e ∙ rw v
+
+-- 16 where it contradicts itself
+pub contradicted : (o : Observation) (a : Assessment) → a ≡ assessing o → inRange o ≡ true → contradictory o ≡ true → a ≡ refusedAssessing contradiction
+unfolding assessing
+contradicted o a e v c = e ∙ rw (v, c)
+
+-- ---- Demand 3
+
+-- calls one after the other, each for the board that the one before it left: one that answers the board (`report`, `updated`, `report_line`), or one that
+-- is lent it (`take_report`)
+pub data Calls {A : Type 0} (step : Board → A → Answer) : Board → List A → Board → Type 0 where
+  no-call : {b : Board} → Calls step b [] b
+  answered : {b d : Board} {x : A} {xs : List A} (a : Answer) → a ≡ step b x → Calls step (a .board) xs d → Calls step b (x ∷ xs) d
+  lent : {b c d : Board} {x : A} {xs : List A} (n : ℕ) → (c ≡ step b x .board) × (n ≡ step b x .refusal) → Calls step c xs d → Calls step b (x ∷ xs) d
+
+-- they leave the board that the definitions give
+are-reports : {b c : Board} {rs : List Row} → Calls report b rs c → c ≡ reports b rs
+unfolding reports
+are-reports no-call = refl
+are-reports (answered {xs = rs} a e k) = are-reports k ∙ ap (λ x. reports (x .board) rs) e
+are-reports (lent {xs = rs} n e k) = are-reports k ∙ ap (λ b. reports b rs) (e .0)
+
+are-lines : {b c : Board} {ls : List (List ℕ)} → Calls reportLine b ls c → c ≡ reportLines b ls
+unfolding reportLines
+are-lines no-call = refl
+are-lines (answered {xs = ls} a e k) = are-lines k ∙ ap (λ x. reportLines (x .board) ls) e
+are-lines (lent {xs = ls} n e k) = are-lines k ∙ ap (λ b. reportLines b ls) (e .0)
+
+-- a board opened with an aerodrome and runways: `open`
+module _ (aerodrome : List ℕ) (count : ℕ) (runways : List Runway) (o : Answer) (opened : o ≡ opening aerodrome count runways) (taken : o .refusal ≡ 0) where
+  was-taken : opening aerodrome count runways ≡ answer 0 (o .board)
+  was-taken = sym opened ∙ (λ i. record { refusal = taken i; board = o .board })
+
+  -- "Each runway then shows": of the valid reports that name it the one observed last, among equal times the first to arrive
+  pub each-shows : {rs : List Row} {c : Board} → Calls report (o .board) rs c → (i : ℕ) → i < count → Shows (getD runways i blankRunway) rs (shownAt c i)
+  each-shows {rs} k i l =
+      subst (λ c. Shows (getD runways i blankRunway) rs (shownAt c i)) (sym (are-reports k))
+      (Board.runway-shows aerodrome count runways (o .board) was-taken rs i l)
+
+  -- "with none it shows nothing"
+  pub none-shows-nothing : {rs : List Row} {c : Board} → Calls report (o .board) rs c → (i : ℕ) → i < count
+      → ((r : Row) → r isIn rs → ReportFor (getD runways i blankRunway) r → ⊥) → shownAt c i ≡ nothing
+  none-shows-nothing k i l h = shows-one (getD runways i blankRunway) (each-shows k i l) (shows-none h)
+
+  -- the same reports in another order, no two different valid ones for a runway with the same time
+  module _ {xs ys : List Row} (moved : List·Permᴰ xs ys) (apart : (i : ℕ) → i < count → Apart (getD runways i blankRunway) xs) {b c : Board}
+      (first : Calls report (o .board) xs b) (second : Calls report (o .board) ys c) where
+    -- leave the same board
+    pub same-board : b ≡ c
+    same-board = are-reports first ∙ (Board.order-free aerodrome count runways (o .board) was-taken xs ys moved apart ∙ sym (are-reports second))
+
+    -- "with the same heading details, items, plain language and buffer length they give the same notice, byte for byte, or the same refusal": `write_board`
+    pub same-notice : {d : Details} {i : Items} {l : Language} {x₀ x y₀ y : List ℕ} {v w : Written} → WroteBoard b d i l x₀ x v → WroteBoard c d i l y₀ y w
+        → length x₀ ≡ length y₀ → (v ≡ w) × (take (v .length) x ≡ take (w .length) y)
+    same-notice {d} {i} {l} {x₀} {x} {y₀} {y} {v} {w} p q e = BoardNotice.one-notice (subst (λ a. WroteBoard a d i l x₀ x v) same-board p) q e
+
+-- of the desk: a line opens a board exactly if it is the text of an aerodrome and runways that opening takes, with that board: `open_line`
+pub opened-by-line : (l : List ℕ) (a : Answer) (b : Board) → a ≡ openingLine l → (a ≡ answer 0 b) ↔ Opens l b
+opened-by-line l a b e = rw e (line-opens l b)
+
+-- any other line gives 17 and the blank board
+pub refused-line : (l : List ℕ) (a : Answer) → a ≡ openingLine l → ((b : Board) → Opens l b → ⊥) → a ≡ answer wrongBoard blankBoard
+refused-line l a e none = e ∙ no-opening l none
+
+-- the board after any list of row lines is that after the rows that the lines tell: `report_line`
+pub lines-are-reports : {b c : Board} {ls : List (List ℕ)} → Calls reportLine b ls c
+    → ((rs : List Row) × RowsTold ls rs) × ((rs : List Row) → RowsTold ls rs → c ≡ reports b rs)
+lines-are-reports {b} {c} {ls} k = (lines-tell ls, λ rs t. are-lines k ∙ lines-report b t)
+
+-- and at the end the desk prints the rows that this board shows: `desk`, in a buffer of three bytes for each byte of the input and 1,186 more
+pub desk-prints : (m l : List ℕ) (ls : List (List ℕ)) (b : Board) (rs : List Row) → lines m ≡ l ∷ ls → Opens l b → RowsTold ls rs
+    → {before after : List ℕ} {n : ℕ} → 3 * length m + 1186 ≤ length before → Put 0 (deskText m) before after n
+    → take n after ≡ printed (bytes "OPEN") ++ (answerLines b ls ++ shownRows places (reports b rs))
+desk-prints m l ls b rs e o t {before} room p =
+    let (n, holds) = Desk.desk-whole m room p in
+    rw (n, holds) (take-front (deskText m) (drop (length (deskText m)) before) ∙ Desk.desk-prints m l ls b rs e (line-opens l b .1 o) t)

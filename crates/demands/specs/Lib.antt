@@ -1,0 +1,2 @@
+-- The three demands, clause by clause.
+pub mod Demands
