@@ -2,7 +2,8 @@
 use Prim.Native.Nat.{ℕ}
 use Prim.Native.String.{String}
 use mathlib.Core.Path.{_≡_, refl}
-use mathlib.Core.List.{List, [], _∷_, _++_}
+use mathlib.Core.List.{List, [], _∷_, _++_, flatten}
+use lib.ListN.{replicate}
 use Rattle.text.specs.Choice.{_and_}
 use Rattle.text.specs.Lines.{lines}
 use Rattle.text.specs.Piece.{bytes, spell}
@@ -23,6 +24,9 @@ use Rattle.board.specs.Board.{isBlankRunway, comesBefore, rises, rising, isAero
 use Rattle.board.specs.Report.{placeOf, isNews, report}
 use Rattle.desktext.specs.Line.{readSpaced, readOpening, openingLine, reportLine, shownText}
 use Rattle.desktext.specs.Desk.{answerLine, shownRows, answersText, deskText}
+use Rattle.desktext.specs.Pieces.{waiting, keeping, over, mostKept, startState, afterLine, lineAnswer, endAnswer, withoutReturn, afterByte, byteAnswer}
+use Rattle.desktext.specs.Pieces.{fedState, fedText, finishText, piecesText}
+use Rattle.desktext.specs.Theorems.{pieces as whole}
 
 -- lines, each ended by LF
 abbrev text : List String → List ℕ
@@ -48,6 +52,35 @@ pub record Inputs : Type 0 where
   lines : deskText (bytes "XQAA 07L" ++ (13 ∷ 10 ∷ []) ++ text ("" ∷ "01120610 07R 6/6/6 DRY/DRY/DRY" ∷ "01120610 07L 6/6/6 DRY/DRY/DRY)" ∷ []))
       ≡ text ("OPEN" ∷ "5" ∷ "18" ∷ "5" ∷ [])
 
+-- what is printed for pieces, and then the end
+abbrev fed : List (List ℕ) → List ℕ
+fed ps = piecesText startState ps
+
+-- a row with n spaces behind its time, ended by CR LF, and an empty line
+abbrev spaced : ℕ → List (List ℕ)
+spaced n = text ("XQAA 07L" ∷ []) ∷ (bytes "01120610" ++ replicate n 32) ∷ (bytes "07L 6/6/6 DRY/DRY/DRY" ++ (13 ∷ 10 ∷ 10 ∷ [])) ∷ []
+
+-- inputs in pieces
+pub record Pieces : Type 0 where
+  -- no piece, and empty ones
+  none : fed [] ≡ text ("REFUSED 17" ∷ [])
+  empty : fed ([] ∷ bytes "XQAA 0" ∷ [] ∷ bytes "7L" ∷ []) ≡ text ("OPEN" ∷ [])
+  -- a CR LF in two pieces, and one that is cut from its line
+  return : fed ((bytes "XQAA 07L" ++ (13 ∷ [])) ∷ (10 ∷ bytes "01120610 07L 6/6/6 DRY") ∷ bytes "/DRY/DRY" ∷ (13 ∷ 10 ∷ []) ∷ [])
+      ≡ text ("OPEN" ∷ "0" ∷ "01120610 07L 6/6/6 DRY/DRY/DRY" ∷ [])
+  -- a CR that no LF follows is text: on the first line, and on a row line that lacks its end
+  alone : fed (bytes "XQAA 07L" ∷ (13 ∷ []) ∷ []) ∷ fed (text ("XQAA 07L" ∷ []) ∷ bytes "01120610 07L 6/6/6 DRY/DRY/DRY" ∷ (13 ∷ []) ∷ []) ∷ []
+      ≡ text ("REFUSED 17" ∷ []) ∷ text ("OPEN" ∷ "5" ∷ []) ∷ []
+  -- the last line lacks its end
+  last : fed (text ("XQAA 07L" ∷ []) ∷ bytes "01120610 07L 6/6/6 DRY" ∷ bytes "/DRY/DRY" ∷ []) ≡ text ("OPEN" ∷ "0" ∷ "01120610 07L 6/6/6 DRY/DRY/DRY" ∷ [])
+  -- a line of 4,096 bytes and a CR, and one of 4,097, each in two pieces and with a line behind it
+  longest : fed (spaced 4067) ≡ text ("OPEN" ∷ "0" ∷ "5" ∷ "01120610 07L 6/6/6 DRY/DRY/DRY" ∷ [])
+  longer : fed (spaced 4068) ≡ text ("OPEN" ∷ "5" ∷ "5" ∷ [])
+  -- an opening that is refused: nothing else is printed
+  refused : fed (text ("XQAA" ∷ []) ∷ text ("XQAA 07L" ∷ "01120610 07L 6/6/6 DRY/DRY/DRY" ∷ []) ∷ []) ≡ text ("REFUSED 17" ∷ [])
+  -- the desk's three phases, and how much of a line is kept
+  phases : waiting ∷ keeping ∷ over ∷ mostKept ∷ [] ≡ 0 ∷ 1 ∷ 2 ∷ 4098 ∷ []
+
 pub inputs : Inputs
 unfolding _and_ lines spell skip readText readMany readName readCount digits readDigits isShortMonth daysOf realDay realClock realTime later validRunway
     isContaminant isDeep isCoverage validCoverage leastDepth isReported validDepth validThird isBlankThird measurePieces readMeasure readCoverage
@@ -55,3 +88,22 @@ unfolding _and_ lines spell skip readText readMany readName readCount digits rea
     readShort readWidth readRow isLetters readAerodrome isAerodrome isBlankRunway comesBefore rises rising validList names fitsPlace fitPlaces validPlaces
     validBoard opening placeOf isNews report readSpaced readOpening openingLine reportLine shownText answerLine shownRows answersText deskText
 inputs = record { reports = refl; order = refl; refused = refl; empty = refl; blank = refl; unended = refl; last = refl; lines = refl }
+
+pub pieces : Pieces
+unfolding _and_ lines spell skip readText readMany readName readCount digits readDigits isShortMonth daysOf realDay realClock realTime later validRunway
+    isContaminant isDeep isCoverage validCoverage leastDepth isReported validDepth validThird isBlankThird measurePieces readMeasure readCoverage
+    readDescription thirdPieces readThird readGroup threeThat isBlankRow validRow isBare isSix isDry isShort middlePieces widthPieces rowPieces readFull
+    readShort readWidth readRow isLetters readAerodrome isAerodrome isBlankRunway comesBefore rises rising validList names fitsPlace fitPlaces validPlaces
+    validBoard opening placeOf isNews report readSpaced readOpening openingLine reportLine shownText answerLine shownRows answersText deskText afterLine lineAnswer endAnswer
+    withoutReturn afterByte byteAnswer fedState fedText finishText piecesText flatten
+pieces = record {
+  none = refl;
+  empty = refl;
+  return = refl;
+  alone = refl;
+  last = refl;
+  longest = whole (spaced 4067);
+  longer = whole (spaced 4068);
+  refused = refl;
+  phases = refl;
+}

@@ -1,7 +1,7 @@
--- What the desk prints at the end, how long its text is, and what a buffer with room for it holds.
+-- An input in pieces gives the text of the whole input; what the desk prints at the end, how long its text is, and what a buffer with room for it holds.
 use Prim.Native.Nat.{ℕ, zero, suc, _+_, _*_, _≤_}
 use mathlib.Core.Path.{_≡_, refl}
-use mathlib.Core.List.{List, [], _∷_, _++_, append-assoc}
+use mathlib.Core.List.{List, [], _∷_, _++_, append-assoc, flatten}
 use mathlib.Core.Bool.{cond, Bool, true, false}
 use native.Mathlib.Omega.{arith}
 use lib.Dec.{eqb}
@@ -9,7 +9,7 @@ use lib.ListN.{length, drop, length-append}
 use Rattle.text.specs.Lines.{push, isReturn, lines}
 use Rattle.text.specs.Piece.{bytes}
 use Rattle.text.specs.Put.{Put}
-use Rattle.text.specs.Laws.Put.{put-one, whole-put}
+use Rattle.text.specs.Laws.Put.{put-one, whole-put, measured}
 use Rattle.text.specs.Laws.Sizes.{size, number-size}
 use Rattle.row.specs.declared.Row.{Row}
 use Rattle.board.specs.declared.Board.{Board}
@@ -18,6 +18,15 @@ use Rattle.desktext.specs.Line.{shownText, openingLine, reportLine}
 use Rattle.board.specs.Board.{places, answer}
 use Rattle.board.specs.Report.{rowAt, reports}
 use Rattle.desktext.specs.Desk.{printed, answerLine, shownRows, answersText, refusedText, linesText, deskText}
+use Rattle.desktext.specs.declared.Standing.{Standing}
+use Rattle.desktext.specs.declared.State.{State}
+use Rattle.desktext.specs.Pieces.{waiting, keeping, afterLine, lineAnswer, endAnswer, startState, begun, withoutReturn, afterByte, byteAnswer}
+use Rattle.desktext.specs.Pieces.{fedText, finishText, piecesText}
+use Rattle.desktext.specs.Laws.Pieces.{pieces-whole}
+
+-- feeding any list of pieces and then the end prints what the desk prints for all of them as one input
+pub pieces : (ps : List (List ℕ)) → piecesText startState ps ≡ deskText (flatten ps)
+pieces = pieces-whole
 
 -- the answers to row lines, one a line
 unfoldable pub answerLines : Board → List (List ℕ) → List ℕ
@@ -80,6 +89,52 @@ desk-size m = go (lines m) (lines-few m)
 pub desk-whole : (m : List ℕ) {b x : List ℕ} {r : ℕ} → 3 * length m + 1186 ≤ length b → Put 0 (deskText m) b x r
     → (r ≡ length (deskText m)) × (x ≡ deskText m ++ drop (length (deskText m)) b)
 desk-whole m h p = whole-put p (omega (arith, desk-size m))
+
+-- a line is answered by at most 11 bytes, "REFUSED 17" with its LF
+line-most : (d : Standing) (l : List ℕ) → length (lineAnswer d l) ≤ 11
+unfolding lineAnswer
+line-most d l = go (eqb (d .phase) waiting) (eqb (d .phase) keeping) (eqb (openingLine l .refusal) 0)
+  where
+    go : (w k o : Bool) → length (cond w (cond o (printed (bytes "OPEN")) refusedText) (cond k (answerLine (reportLine (d .board) l .refusal)) [])) ≤ 11
+    go true k true = omega arith
+    go true k false = omega arith
+    go false true o = let h = answer-size (reportLine (d .board) l .refusal) in omega arith
+    go false false o = omega arith
+
+-- so a piece by at most 11 for each of its bytes
+pub fed-size : (m : List ℕ) (s : State) → length (fedText s m) ≤ 11 * length m
+unfolding fedText byteAnswer
+fed-size [] s = omega arith
+fed-size (x ∷ m) s = rw length-append (omega (arith, go (eqb x 10), fed-size m (afterByte s x)))
+  where
+    go : (t : Bool) → length (cond t (lineAnswer (s .standing) (withoutReturn (begun s))) []) ≤ 11
+    go true = line-most (s .standing) (withoutReturn (begun s))
+    go false = omega arith
+
+end-most : (d : Standing) → length (endAnswer d) ≤ 1184
+unfolding endAnswer
+end-most d = go (eqb (d .phase) waiting) (eqb (d .phase) keeping)
+  where
+    go : (w k : Bool) → length (cond w refusedText (cond k (shownRows 8 (d .board)) [])) ≤ 1184
+    go true k = omega arith
+    go false true = let h = rows-size 8 (d .board) in omega arith
+    go false false = omega arith
+
+-- and the end by a last line's answer and eight rows
+pub finish-size : (s : State) → length (finishText s) ≤ 1195
+unfolding finishText
+finish-size s = go (eqb (s .count) 0)
+  where
+    go : (t : Bool) → length (cond t (endAnswer (s .standing)) (lineAnswer (s .standing) (begun s) ++ endAnswer (afterLine (s .standing) (begun s)))) ≤ 1195
+    go true = let h = end-most (s .standing) in omega arith
+    go false = rw length-append (omega (arith, line-most (s .standing) (begun s), end-most (afterLine (s .standing) (begun s))))
+
+-- and both are told, so that a caller with room for them gets them whole
+pub fed-told : (m : List ℕ) (s : State) {b x : List ℕ} {r : ℕ} → 11 * length m ≤ 65536 → Put 0 (fedText s m) b x r → r ≤ 11 * length m
+fed-told m s h p = let z = fed-size m s in let e = measured p (omega arith) in omega arith
+
+pub finish-told : (s : State) {b x : List ℕ} {r : ℕ} → Put 0 (finishText s) b x r → r ≤ 1195
+finish-told s p = let z = finish-size s in let e = measured p (omega arith) in omega arith
 
 -- the promise of a row shown leaves no choice
 pub shown-one : (r : Row) {before x y : List ℕ} {n m : ℕ} → Put 0 (shownText r) before x n → Put 0 (shownText r) before y m → (n ≡ m) × (x ≡ y)

@@ -1,13 +1,13 @@
-// The desk: what its lines mean, and what it prints for a whole input, as one text: the board opened, each report answered, the rows shown.
+// The desk: what its lines mean, and what it prints for an input that arrives in pieces: the board opened, each report answered, the rows shown.
 
 ghost use mathlib.Core.Path.{_≡_};
-ghost use Rattle.text.specs.Lines.{lines};
 ghost use Rattle.text.specs.Put.{Put};
 ghost use Rattle.board.specs.Report.{rowAt};
 ghost use Rattle.desktext.specs.Line.{shownText, readSpaced, readRunways, listAnswer, openingLine, reportLine};
-ghost use Rattle.desktext.specs.Desk.{answerLine, shownRows, answersText, refusedText, deskText};
-ghost use Rattle.desktext.specs.Code.Answers.{takenLine};
-ghost use lib.ListN.{drop, getD};
+ghost use Rattle.desktext.specs.Desk.{answerLine, shownRows, refusedText, deskText};
+ghost use Rattle.desktext.specs.Pieces.{keeping, standing, openedStanding, openedLine, afterLine, lineAnswer, endAnswer};
+ghost use Rattle.desktext.specs.Pieces.{startState, withoutReturn, fedState, fedText, finishText};
+ghost use lib.ListN.{length, take, drop, getD};
 ghost use Rattle.text.specs.Read.{misfit, whole};
 ghost use Rattle.runway.specs.Code.Held.{HeldRunway};
 ghost use Rattle.row.specs.Row.{blankRow};
@@ -33,7 +33,6 @@ use runway::NO_RUNWAY;
 use runway::RunwayFound;
 use runway::read_runway;
 use text::LONGEST;
-use text::first_line;
 use text::place;
 use text::refusal;
 
@@ -159,12 +158,6 @@ pub fn put_shown(rest: &mut [u8], b: Board, i: usize) -> usize
 
 // ---- What the desk prints
 
-// The report that a line is, and where the next line starts.
-struct Taken {
-    answer: Answer,
-    next: usize,
-}
-
 // The answer to a report: its refusal number, or 0, on a line of its own.
 fn put_answer(out: &mut [u8], at: usize, n: u8) -> usize
     ensures { λ r. ⌜ Put at (answerLine n) (now (out .entry)) (now (out .exit)) r ⌝ }
@@ -195,57 +188,221 @@ fn put_rows(out: &mut [u8], at: usize, b: Board) -> usize
     behind
 }
 
-// The report at the front of what is left of the input.
-fn take_line(b: Board, m: &[u8]) -> Taken
-    ensures { λ r. ⌜ r ≡ takenLine b (now (m .entry)) ⌝ }
+fn put_refused(out: &mut [u8], at: usize) -> usize
+    ensures { λ r. ⌜ Put at refusedText (now (out .entry)) (now (out .exit)) r ⌝ }
 {
-    let line = first_line(m);
-    let size = line.size;
-    let answer = report_line(b, &m[..size]);
-    Taken {
-        answer,
-        next: line.next,
+    put(out, at, b"REFUSED 17\n")
+}
+
+// ---- Line by line
+
+// The desk waits for its first line, keeps a board, or is over, since its opening was refused.
+pub const WAITING: u8 = 0;
+
+pub const KEEPING: u8 = 1;
+
+pub const OVER: u8 = 2;
+
+// Where the desk stands between two lines; its board is blank unless it keeps one.
+pub struct Standing {
+    pub phase: u8,
+    pub board: Board,
+}
+
+// The desk after a line, and the place behind what was put.
+struct Turn {
+    standing: Standing,
+    behind: usize,
+}
+
+// The first line: it opens the board, or the desk is over.
+fn take_opening(line: &[u8], out: &mut [u8], at: usize) -> Turn
+    ensures { λ r. ⌜ (r .standing ≡ openedStanding (openingLine (now (line .entry)))) × Put at (openedLine (openingLine (now (line .entry)))) (now (out .entry)) (now (out .exit)) (r .behind) ⌝ }
+{
+    let a = open_line(line);
+    let board = a.board;
+    if a.refusal == 0 {
+        let standing = Standing {
+            phase: KEEPING,
+            board,
+        };
+        let behind = put(out, at, b"OPEN\n");
+        return Turn { standing, behind };
+    }
+    let standing = Standing { phase: OVER, board };
+    let behind = put_refused(out, at);
+    Turn { standing, behind }
+}
+
+// A further line: a report.
+fn take_report_line(b: Board, line: &[u8], out: &mut [u8], at: usize) -> Turn
+    ensures { λ r. ⌜ (r .standing ≡ standing keeping (reportLine b (now (line .entry)) .board)) × Put at (answerLine (reportLine b (now (line .entry)) .refusal)) (now (out .entry)) (now (out .exit)) (r .behind) ⌝ }
+{
+    let a = report_line(b, line);
+    let board = a.board;
+    let standing = Standing {
+        phase: KEEPING,
+        board,
+    };
+    let behind = put_answer(out, at, a.refusal);
+    Turn { standing, behind }
+}
+
+// One line, and what is printed for it.
+fn take_line(d: Standing, line: &[u8], out: &mut [u8], at: usize) -> Turn
+    ensures { λ r. ⌜ (r .standing ≡ afterLine d (now (line .entry))) × Put at (lineAnswer d (now (line .entry))) (now (out .entry)) (now (out .exit)) (r .behind) ⌝ }
+{
+    if d.phase == WAITING {
+        return take_opening(line, out, at);
+    }
+    if d.phase == KEEPING {
+        let b = d.board;
+        return take_report_line(b, line, out, at);
+    }
+    let behind = told_behind(out, at, 0);
+    Turn {
+        standing: d,
+        behind,
     }
 }
 
-// The answers to the reports, line by line, and at the end the rows shown.
-fn put_answers(out: &mut [u8], at: usize, b: Board, m: &[u8]) -> usize
-    ensures { λ r. ⌜ Put at (answersText b (lines (now (m .entry)))) (now (out .entry)) (now (out .exit)) r ⌝ }
+// What is printed at the end of the input.
+fn put_end(out: &mut [u8], at: usize, d: Standing) -> usize
+    ensures { λ r. ⌜ Put at (endAnswer d) (now (out .entry)) (now (out .exit)) r ⌝ }
 {
-    let mut board = b;
+    if d.phase == WAITING {
+        return put_refused(out, at);
+    }
+    if d.phase == KEEPING {
+        let b = d.board;
+        return put_rows(out, at, b);
+    }
+    told_behind(out, at, 0)
+}
+
+// ---- Piece by piece
+
+const LF: u8 = 10;
+
+const CR: u8 = 13;
+
+// Of a line are kept 4,096 bytes, the CR that may end it, and one more, which tells it to be over-long.
+const MOST_KEPT: usize = 4098;
+
+// Where the desk stands, and the bytes of the line that has not ended yet: the first `count` of those held.
+pub struct State {
+    pub standing: Standing,
+    pub held: [u8; 4098],
+    pub count: usize,
+}
+
+// The state after a piece, and the place behind what was put.
+pub struct Fed {
+    pub state: State,
+    pub behind: usize,
+}
+
+// Before the first piece.
+pub fn start() -> State
+    ensures { λ r. ⌜ r ≡ startState ⌝ }
+{
+    let a = refused_opening();
+    let board = a.board;
+    let standing = Standing {
+        phase: WAITING,
+        board,
+    };
+    State {
+        standing,
+        held: [0; 4098],
+        count: 0,
+    }
+}
+
+// How many bytes a line has without the CR that is part of its end.
+fn size_without_return(line: &[u8]) -> usize
+    ensures { λ r. ⌜ r ≡ length (withoutReturn (now (line .entry))) ⌝ }
+{
+    let n = line.len();
+    if n == 0 {
+        return 0;
+    }
+    if line[n - 1] == CR {
+        return n - 1;
+    }
+    n
+}
+
+// The line that an LF ended.
+fn take_ended(d: Standing, line: &[u8], out: &mut [u8], at: usize) -> Turn
+    ensures { λ r. ⌜ (r .standing ≡ afterLine d (withoutReturn (now (line .entry)))) × Put at (lineAnswer d (withoutReturn (now (line .entry)))) (now (out .entry)) (now (out .exit)) (r .behind) ⌝ }
+{
+    let size = size_without_return(line);
+    take_line(d, &line[..size], out, at)
+}
+
+// The same, as it is held.
+fn take_held(d: Standing, held: &[u8], count: usize, out: &mut [u8], at: usize) -> Turn
+    ensures { λ r. ⌜ (r .standing ≡ afterLine d (withoutReturn (take count (now (held .entry))))) × Put at (lineAnswer d (withoutReturn (take count (now (held .entry))))) (now (out .entry)) (now (out .exit)) (r .behind) ⌝ }
+{
+    let n = place(held, count);
+    take_ended(d, &held[..n], out, at)
+}
+
+// One piece more of the input: puts the answers to the lines that end in it, from `at` on and as far as the buffer goes, and answers what is kept.
+pub fn feed(s: State, piece: &[u8], out: &mut [u8], at: usize) -> Fed
+    ensures { λ r. ⌜ (r .state ≡ fedState s (now (piece .entry))) × Put at (fedText s (now (piece .entry))) (now (out .entry)) (now (out .exit)) (r .behind) ⌝ }
+{
+    let mut standing = s.standing;
+    let mut held = s.held;
+    let mut count = s.count;
     let mut behind = at;
     let mut i: usize = 0;
-    while i < m.len() {
-        let step = take_line(board, &m[i..]);
-        let answer = step.answer;
-        behind = put_answer(out, behind, answer.refusal);
-        board = answer.board;
-        i += step.next;
+    while i < piece.len() {
+        let b = piece[i];
+        i += 1;
+        if b == LF {
+            let turn = take_held(standing, &held, count, out, behind);
+            standing = turn.standing;
+            behind = turn.behind;
+            count = 0;
+        } else if count < MOST_KEPT {
+            held[count] = b;
+            count += 1;
+        }
     }
-    put_rows(out, behind, board)
+    let behind = told_behind(out, behind, 0);
+    Fed {
+        state: State {
+            standing,
+            held,
+            count,
+        },
+        behind,
+    }
 }
 
-fn put_refused(out: &mut [u8]) -> usize
-    ensures { λ r. ⌜ Put 0 refusedText (now (out .entry)) (now (out .exit)) r ⌝ }
+// The end of the input: puts the answer to a last line that lacks its end, and the rows shown; answers the place behind them.
+pub fn finish(s: State, out: &mut [u8], at: usize) -> usize
+    ensures { λ r. ⌜ Put at (finishText s) (now (out .entry)) (now (out .exit)) r ⌝ }
 {
-    put(out, 0, b"REFUSED 17\n")
+    let d = s.standing;
+    let count = s.count;
+    if count == 0 {
+        return put_end(out, at, d);
+    }
+    let held = s.held;
+    let n = place(&held, count);
+    let turn = take_line(d, &held[..n], out, at);
+    let after = turn.standing;
+    put_end(out, turn.behind, after)
 }
 
 // What the desk prints for a whole input, put as far as the buffer goes; answers how many bytes it has.
 pub fn desk(input: &[u8], out: &mut [u8]) -> usize
     ensures { λ r. ⌜ Put 0 (deskText (now (input .entry))) (now (out .entry)) (now (out .exit)) r ⌝ }
 {
-    if input.len() == 0 {
-        return put_refused(out);
-    }
-    let line = first_line(input);
-    let size = line.size;
-    let a = open_line(&input[..size]);
-    if a.refusal != 0 {
-        return put_refused(out);
-    }
-    let b = a.board;
-    let next = line.next;
-    let at = put(out, 0, b"OPEN\n");
-    put_answers(out, at, b, &input[next..])
+    let fed = feed(start(), input, out, 0);
+    let state = fed.state;
+    finish(state, out, fed.behind)
 }

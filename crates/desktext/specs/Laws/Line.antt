@@ -1,5 +1,5 @@
 -- An opening line is read exactly if it is the text of an aerodrome and runways.
-use Prim.Native.Nat.{ℕ, _-_, _<_, _≤_, _^_}
+use Prim.Native.Nat.{ℕ, zero, suc, _+_, _-_, _*_, _<_, _≤_, _^_}
 use mathlib.Core.Path.{_≡_, refl, sym, subst, _∙_, ap}
 use mathlib.Core.List.{List, [], _∷_}
 use mathlib.Core.Bool.{cond, Bool, true, false}
@@ -8,7 +8,9 @@ use borrow.Author.Tests.{eqb-true, leb-true}
 use native.Mathlib.Omega.{arith}
 use Rattle.text.specs.Names.{isSpace, isLetter, readCount}
 use Rattle.text.specs.Choice.{_and_, all, headIs}
-use Rattle.text.specs.Piece.{Typing, canonical, end, _then_}
+use Rattle.text.specs.Piece.{Typed, Typing, done, step, byte1, byte, canonical, end, verbatim, layAll, spell, _then_}
+use Rattle.text.specs.Numbers.{digits}
+use Rattle.text.specs.Laws.Typing.{cut}
 use Rattle.text.specs.Read.{Got, misfit, got, whole, readAs}
 use Rattle.text.specs.Arrays.{pad}
 use Rattle.text.specs.Laws.Base.{Laws, Head, Any, inner, and-1, and-2}
@@ -19,7 +21,7 @@ use Rattle.text.specs.Laws.Arrays.{array-back, take-front}
 use Rattle.text.specs.Laws.Put.{canonical-append}
 use Rattle.text.specs.Laws.Sizes.{size}
 use Rattle.text.specs.Laws.Lines.{Ends, whole-sound, whole-complete}
-use Rattle.runway.specs.Runway.{isSide, validRunway}
+use Rattle.runway.specs.Runway.{isSide, validRunway, runwayPieces}
 use Rattle.runway.specs.Laws.Runway.{runway-laws}
 use Rattle.row.specs.declared.Row.{Row}
 use Rattle.row.specs.Row.{highestRunway, validRow, isBlankRow}
@@ -28,7 +30,7 @@ use Rattle.row.specs.Laws.Row.{blank-row}
 use Rattle.rowtext.specs.Laws.Sizes.{row-size}
 use Rattle.frontlines.specs.Letters.{isLetters}
 use Rattle.frontlines.specs.Heading.{aerodromeSize, readAerodrome}
-use Rattle.frontlines.specs.Laws.Letters.{letters-laws}
+use Rattle.frontlines.specs.Laws.Letters.{letters-long, letters-laws}
 use Rattle.board.specs.declared.Runway.{Runway}
 use Rattle.board.specs.declared.Board.{Board}
 use Rattle.board.specs.Board.{places, blankRunway, isBlankRunway, isAerodrome, rises, rising, validList, fitsPlace, runwaysOf, validBoard, fresh, answer}
@@ -83,6 +85,38 @@ all-written v (w ∷ ws) h =
     let k = and-1 _ _ (and-1 _ _ h) in
     let n = leb-true (w .number) highestRunway (and-1 _ _ (and-2 _ _ k)) in
     ((omega arith, leb-true (w .side) 3 (and-2 _ _ (and-2 _ _ k))), all-written w ws (and-2 _ _ h))
+
+-- an aerodrome, and at most eight runways of four bytes with their space
+spaced-short : (w : Runway) {m k : List ℕ} → Typed (spacedPieces w) m k → length m ≤ 4 + length k
+unfolding digits spell
+spaced-short w t = go (w .side) t
+  where
+    go : (side : ℕ) {m k : List ℕ} → Typed (byte 32 ∷ runwayPieces (w .number) side) m k → length m ≤ 4 + length k
+    go zero (step byte1 (step byte1 (step byte1 done))) = omega arith
+    go (suc zero) (step byte1 (step byte1 (step byte1 (step byte1 done)))) = omega arith
+    go (suc (suc zero)) (step byte1 (step byte1 (step byte1 (step byte1 done)))) = omega arith
+    go (suc (suc (suc zero))) (step byte1 (step byte1 (step byte1 (step byte1 done)))) = omega arith
+    go (suc (suc (suc (suc n)))) (step byte1 (step byte1 (step byte1 done))) = omega arith
+
+runways-short : (ws : List Runway) {m k : List ℕ} → Typed (layAll spacedPieces ws) m k → length m ≤ 4 * length ws + length k
+runways-short [] done = omega arith
+runways-short (w ∷ ws) t = let c = cut (spacedPieces w) t in omega (arith, spaced-short w (c .left), runways-short ws (c .right))
+
+verbatim-short : (a : List ℕ) {m k : List ℕ} → Typed (verbatim a) m k → length m ≤ length a + length k
+verbatim-short [] done = omega arith
+verbatim-short (x ∷ a) (step byte1 t) = let h = verbatim-short a t in omega arith
+
+-- a line that is longer is refused
+pub opening-long : (line : List ℕ) → 36 < length line → openingLine line ≡ refusedOpening
+unfolding openingLine openingPieces
+opening-long line h = go (whole (readOpening line)) refl
+  where
+    go : (g : Got (List ℕ × List Runway)) → whole (readOpening line) ≡ g → openingRead g ≡ refusedOpening
+    go misfit q = refl
+    go (got p r) q =
+        let (v, t) = whole-sound opening-laws {m = line} q in
+        let c = cut (verbatim (p .0)) t in
+        absurd (omega (arith, letters-long aerodromeSize (p .0) (v .0), v .1 .0, verbatim-short (p .0) (c .left), runways-short (p .1) (c .right)))
 
 blank-runway : (w : Runway) → isBlankRunway w ≡ true → w ≡ blankRunway
 unfolding isBlankRunway
