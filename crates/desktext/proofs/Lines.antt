@@ -5,13 +5,12 @@ use mathlib.Core.List.{List, [], _∷_, _++_}
 use mathlib.Core.Bool.{cond, Bool, true, false}
 use lib.ListN.{length, take, drop}
 use lib.Seq.{take-all}
-use borrow.Author.Tests.{ne-eqb, le-leb, lt-leb}
+use borrow.Author.Tests.{ne-eqb, le-leb}
 use native.Mathlib.Omega.{arith}
 use Rattle.text.specs.Choice.{_and_}
 use Rattle.text.specs.Piece.{canonical, end}
 use Rattle.text.specs.Read.{Got, misfit, got, guard, andThen, whole}
 use Rattle.text.specs.Names.{isLetter, readCount}
-use Rattle.text.specs.Code.Held.{isGot}
 use Rattle.text.specs.Arrays.{pad}
 use Rattle.text.specs.Laws.Base.{true-false}
 use Rattle.text.specs.Laws.Put.{canonical-append}
@@ -98,10 +97,6 @@ module _ (line : List ℕ) where
 
 -- the line of a report
 module _ (b : Board) (line : List ℕ) where
-  pub long-line : longest < length line → answer noRow b ≡ reportLine b line
-  unfolding reportLine
-  long-line h = rw (lt-leb (length line) longest h)
-
   module _ (h : length line ≤ longest) (r : RowRead) (e : r ≡ rowAnswer (wholeRow line)) where
     pub no-row : (r .refusal ≡ 0 → ⊥) → answer noRow b ≡ reportLine b line
     unfolding reportLine

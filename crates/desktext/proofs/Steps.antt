@@ -8,7 +8,7 @@ use native.Mathlib.Omega.{arith}
 use lib.Dec.{eqb, leb}
 use lib.ListN.{length, take, drop, getD, set, length-drop, drop-of-length-le}
 use lib.Seq.{take-all, drop-cons}
-use borrow.Author.Tests.{eq-eqb, ne-eqb, lt-ltb, le-ltb, leb-true, leb-false}
+use borrow.Author.Tests.{ne-eqb, lt-ltb, le-ltb, leb-true, leb-false}
 use Rattle.text.specs.Put.{Put}
 use Rattle.text.specs.Code.Held.{Reached}
 use Rattle.text.specs.Laws.Held.{one-place}

@@ -1,4 +1,5 @@
--- What the desk's lines mean, and what it prints; how the code answers; what is proved of the lines and of the text; inputs that the checker evaluates.
+-- What the desk's lines mean, and what it prints, for a whole input and for pieces of it; what is proved of the lines, the text and the pieces; inputs that
+-- the checker evaluates.
 pub mod Line
 pub mod Desk
 pub mod Pieces

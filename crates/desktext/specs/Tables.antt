@@ -33,6 +33,14 @@ abbrev text : List String → List ℕ
 text [] = []
 text (s ∷ ss) = bytes s ++ (10 ∷ text ss)
 
+-- what is printed for pieces, and then the end
+abbrev fed : List (List ℕ) → List ℕ
+fed ps = piecesText startState ps
+
+-- a row with n spaces behind its time, ended by CR LF, and an empty line
+abbrev spaced : ℕ → List (List ℕ)
+spaced n = text ("XQAA 07L" ∷ []) ∷ (bytes "01120610" ++ replicate n 32) ∷ (bytes "07L 6/6/6 DRY/DRY/DRY" ++ (13 ∷ 10 ∷ 10 ∷ [])) ∷ []
+
 pub record Inputs : Type 0 where
   -- two reports, and one that is not later than the row shown
   reports : deskText (text ("XQAA 07L 07R" ∷ "01120610 07L 3/5/5 75/25/NR 12/NR/NR DRY SNOW/FROST/DRY" ∷ "01120640 07R  6/6/6 NR/NR/NR NR/NR/NR DRY/DRY/DRY"
@@ -51,33 +59,23 @@ pub record Inputs : Type 0 where
   -- every further line is a row line; CR LF ends it as LF does; with no row taken nothing is shown
   lines : deskText (bytes "XQAA 07L" ++ (13 ∷ 10 ∷ []) ++ text ("" ∷ "01120610 07R 6/6/6 DRY/DRY/DRY" ∷ "01120610 07L 6/6/6 DRY/DRY/DRY)" ∷ []))
       ≡ text ("OPEN" ∷ "5" ∷ "18" ∷ "5" ∷ [])
-
--- what is printed for pieces, and then the end
-abbrev fed : List (List ℕ) → List ℕ
-fed ps = piecesText startState ps
-
--- a row with n spaces behind its time, ended by CR LF, and an empty line
-abbrev spaced : ℕ → List (List ℕ)
-spaced n = text ("XQAA 07L" ∷ []) ∷ (bytes "01120610" ++ replicate n 32) ∷ (bytes "07L 6/6/6 DRY/DRY/DRY" ++ (13 ∷ 10 ∷ 10 ∷ [])) ∷ []
-
--- inputs in pieces
-pub record Pieces : Type 0 where
-  -- no piece, and empty ones
-  none : fed [] ≡ text ("REFUSED 17" ∷ [])
-  empty : fed ([] ∷ bytes "XQAA 0" ∷ [] ∷ bytes "7L" ∷ []) ≡ text ("OPEN" ∷ [])
+  -- in pieces: none, and empty ones
+  no-piece : fed [] ≡ text ("REFUSED 17" ∷ [])
+  empty-pieces : fed ([] ∷ bytes "XQAA 0" ∷ [] ∷ bytes "7L" ∷ []) ≡ text ("OPEN" ∷ [])
   -- a CR LF in two pieces, and one that is cut from its line
-  return : fed ((bytes "XQAA 07L" ++ (13 ∷ [])) ∷ (10 ∷ bytes "01120610 07L 6/6/6 DRY") ∷ bytes "/DRY/DRY" ∷ (13 ∷ 10 ∷ []) ∷ [])
+  return-cut : fed ((bytes "XQAA 07L" ++ (13 ∷ [])) ∷ (10 ∷ bytes "01120610 07L 6/6/6 DRY") ∷ bytes "/DRY/DRY" ∷ (13 ∷ 10 ∷ []) ∷ [])
       ≡ text ("OPEN" ∷ "0" ∷ "01120610 07L 6/6/6 DRY/DRY/DRY" ∷ [])
   -- a CR that no LF follows is text: on the first line, and on a row line that lacks its end
-  alone : fed (bytes "XQAA 07L" ∷ (13 ∷ []) ∷ []) ∷ fed (text ("XQAA 07L" ∷ []) ∷ bytes "01120610 07L 6/6/6 DRY/DRY/DRY" ∷ (13 ∷ []) ∷ []) ∷ []
+  return-alone : fed (bytes "XQAA 07L" ∷ (13 ∷ []) ∷ []) ∷ fed (text ("XQAA 07L" ∷ []) ∷ bytes "01120610 07L 6/6/6 DRY/DRY/DRY" ∷ (13 ∷ []) ∷ []) ∷ []
       ≡ text ("REFUSED 17" ∷ []) ∷ text ("OPEN" ∷ "5" ∷ []) ∷ []
   -- the last line lacks its end
-  last : fed (text ("XQAA 07L" ∷ []) ∷ bytes "01120610 07L 6/6/6 DRY" ∷ bytes "/DRY/DRY" ∷ []) ≡ text ("OPEN" ∷ "0" ∷ "01120610 07L 6/6/6 DRY/DRY/DRY" ∷ [])
+  last-in-pieces : fed (text ("XQAA 07L" ∷ []) ∷ bytes "01120610 07L 6/6/6 DRY" ∷ bytes "/DRY/DRY" ∷ [])
+      ≡ text ("OPEN" ∷ "0" ∷ "01120610 07L 6/6/6 DRY/DRY/DRY" ∷ [])
   -- a line of 4,096 bytes and a CR, and one of 4,097, each in two pieces and with a line behind it
   longest : fed (spaced 4067) ≡ text ("OPEN" ∷ "0" ∷ "5" ∷ "01120610 07L 6/6/6 DRY/DRY/DRY" ∷ [])
   longer : fed (spaced 4068) ≡ text ("OPEN" ∷ "5" ∷ "5" ∷ [])
   -- an opening that is refused: nothing else is printed
-  refused : fed (text ("XQAA" ∷ []) ∷ text ("XQAA 07L" ∷ "01120610 07L 6/6/6 DRY/DRY/DRY" ∷ []) ∷ []) ≡ text ("REFUSED 17" ∷ [])
+  refused-in-pieces : fed (text ("XQAA" ∷ []) ∷ text ("XQAA 07L" ∷ "01120610 07L 6/6/6 DRY/DRY/DRY" ∷ []) ∷ []) ≡ text ("REFUSED 17" ∷ [])
   -- the desk's three phases, and how much of a line is kept
   phases : waiting ∷ keeping ∷ over ∷ mostKept ∷ [] ≡ 0 ∷ 1 ∷ 2 ∷ 4098 ∷ []
 
@@ -87,23 +85,23 @@ unfolding _and_ lines spell skip readText readMany readName readCount digits rea
     readDescription thirdPieces readThird readGroup threeThat isBlankRow validRow isBare isSix isDry isShort middlePieces widthPieces rowPieces readFull
     readShort readWidth readRow isLetters readAerodrome isAerodrome isBlankRunway comesBefore rises rising validList names fitsPlace fitPlaces validPlaces
     validBoard opening placeOf isNews report readSpaced readOpening openingLine reportLine shownText answerLine shownRows answersText deskText
-inputs = record { reports = refl; order = refl; refused = refl; empty = refl; blank = refl; unended = refl; last = refl; lines = refl }
-
-pub pieces : Pieces
-unfolding _and_ lines spell skip readText readMany readName readCount digits readDigits isShortMonth daysOf realDay realClock realTime later validRunway
-    isContaminant isDeep isCoverage validCoverage leastDepth isReported validDepth validThird isBlankThird measurePieces readMeasure readCoverage
-    readDescription thirdPieces readThird readGroup threeThat isBlankRow validRow isBare isSix isDry isShort middlePieces widthPieces rowPieces readFull
-    readShort readWidth readRow isLetters readAerodrome isAerodrome isBlankRunway comesBefore rises rising validList names fitsPlace fitPlaces validPlaces
-    validBoard opening placeOf isNews report readSpaced readOpening openingLine reportLine shownText answerLine shownRows answersText deskText afterLine lineAnswer endAnswer
-    withoutReturn afterByte byteAnswer fedState fedText finishText piecesText flatten
-pieces = record {
-  none = refl;
+    afterLine lineAnswer endAnswer withoutReturn afterByte byteAnswer fedState fedText finishText piecesText flatten
+inputs = record {
+  reports = refl;
+  order = refl;
+  refused = refl;
   empty = refl;
-  return = refl;
-  alone = refl;
+  blank = refl;
+  unended = refl;
   last = refl;
+  lines = refl;
+  no-piece = refl;
+  empty-pieces = refl;
+  return-cut = refl;
+  return-alone = refl;
+  last-in-pieces = refl;
   longest = whole (spaced 4067);
   longer = whole (spaced 4068);
-  refused = refl;
+  refused-in-pieces = refl;
   phases = refl;
 }

@@ -9,12 +9,12 @@ use lib.ListN.{length, drop, length-append}
 use Rattle.text.specs.Lines.{push, isReturn, lines}
 use Rattle.text.specs.Piece.{bytes}
 use Rattle.text.specs.Put.{Put}
-use Rattle.text.specs.Laws.Put.{put-one, whole-put, measured}
+use Rattle.text.specs.Laws.Put.{whole-put, measured}
 use Rattle.text.specs.Laws.Sizes.{size, number-size}
 use Rattle.row.specs.declared.Row.{Row}
 use Rattle.board.specs.declared.Board.{Board}
 use Rattle.desktext.specs.Laws.Desk.{shown-size, RowsTold, reportLines, lines-report}
-use Rattle.desktext.specs.Line.{shownText, openingLine, reportLine}
+use Rattle.desktext.specs.Line.{openingLine, reportLine}
 use Rattle.board.specs.Board.{places, answer}
 use Rattle.board.specs.Report.{rowAt, reports}
 use Rattle.desktext.specs.Desk.{printed, answerLine, shownRows, answersText, refusedText, linesText, deskText}
@@ -135,7 +135,3 @@ fed-told m s h p = let z = fed-size m s in let e = measured p (omega arith) in o
 
 pub finish-told : (s : State) {b x : List ℕ} {r : ℕ} → Put 0 (finishText s) b x r → r ≤ 1195
 finish-told s p = let z = finish-size s in let e = measured p (omega arith) in omega arith
-
--- the promise of a row shown leaves no choice
-pub shown-one : (r : Row) {before x y : List ℕ} {n m : ℕ} → Put 0 (shownText r) before x n → Put 0 (shownText r) before y m → (n ≡ m) × (x ≡ y)
-shown-one r p q = put-one p q

@@ -94,7 +94,7 @@ fn runway_list(s: &[u8]) -> RunwayList
 const AERODROME_SIZE: usize = 4;
 
 // The board that a line with the aerodrome and the runways, parted by one space, opens; 17 and the blank board for any other line.
-pub fn open_line(line: &[u8]) -> Answer
+fn open_line(line: &[u8]) -> Answer
     ensures { λ a. ⌜ a ≡ openingLine (now (line .entry)) ⌝ }
 {
     if line.len() < AERODROME_SIZE {
@@ -111,7 +111,7 @@ pub fn open_line(line: &[u8]) -> Answer
 }
 
 // The report that a line is: 5 where it is no row or is over 4,096 bytes.
-pub fn report_line(b: Board, line: &[u8]) -> Answer
+fn report_line(b: Board, line: &[u8]) -> Answer
     ensures { λ a. ⌜ a ≡ reportLine b (now (line .entry)) ⌝ }
 {
     if line.len() <= LONGEST {
@@ -148,7 +148,7 @@ fn put_line(rest: &mut [u8], r: Row) -> usize
 }
 
 // Puts the line of the row shown at a place, and answers how many bytes it has: none where the place shows nothing.
-pub fn put_shown(rest: &mut [u8], b: Board, i: usize) -> usize
+fn put_shown(rest: &mut [u8], b: Board, i: usize) -> usize
     ensures { λ n. ⌜ Put 0 (shownText (rowAt b i)) (now (rest .entry)) (now (rest .exit)) n ⌝ }
 {
     let rows = b.rows;
@@ -217,7 +217,8 @@ struct Turn {
 
 // The first line: it opens the board, or the desk is over.
 fn take_opening(line: &[u8], out: &mut [u8], at: usize) -> Turn
-    ensures { λ r. ⌜ (r .standing ≡ openedStanding (openingLine (now (line .entry)))) × Put at (openedLine (openingLine (now (line .entry)))) (now (out .entry)) (now (out .exit)) (r .behind) ⌝ }
+    ensures { λ r. ⌜ r .standing ≡ openedStanding (openingLine (now (line .entry))) ⌝ }
+    ensures { λ r. ⌜ Put at (openedLine (openingLine (now (line .entry)))) (now (out .entry)) (now (out .exit)) (r .behind) ⌝ }
 {
     let a = open_line(line);
     let board = a.board;
@@ -236,7 +237,8 @@ fn take_opening(line: &[u8], out: &mut [u8], at: usize) -> Turn
 
 // A further line: a report.
 fn take_report_line(b: Board, line: &[u8], out: &mut [u8], at: usize) -> Turn
-    ensures { λ r. ⌜ (r .standing ≡ standing keeping (reportLine b (now (line .entry)) .board)) × Put at (answerLine (reportLine b (now (line .entry)) .refusal)) (now (out .entry)) (now (out .exit)) (r .behind) ⌝ }
+    ensures { λ r. ⌜ r .standing ≡ standing keeping (reportLine b (now (line .entry)) .board) ⌝ }
+    ensures { λ r. ⌜ Put at (answerLine (reportLine b (now (line .entry)) .refusal)) (now (out .entry)) (now (out .exit)) (r .behind) ⌝ }
 {
     let a = report_line(b, line);
     let board = a.board;
@@ -250,7 +252,8 @@ fn take_report_line(b: Board, line: &[u8], out: &mut [u8], at: usize) -> Turn
 
 // One line, and what is printed for it.
 fn take_line(d: Standing, line: &[u8], out: &mut [u8], at: usize) -> Turn
-    ensures { λ r. ⌜ (r .standing ≡ afterLine d (now (line .entry))) × Put at (lineAnswer d (now (line .entry))) (now (out .entry)) (now (out .exit)) (r .behind) ⌝ }
+    ensures { λ r. ⌜ r .standing ≡ afterLine d (now (line .entry)) ⌝ }
+    ensures { λ r. ⌜ Put at (lineAnswer d (now (line .entry))) (now (out .entry)) (now (out .exit)) (r .behind) ⌝ }
 {
     if d.phase == WAITING {
         return take_opening(line, out, at);
@@ -335,7 +338,8 @@ fn size_without_return(line: &[u8]) -> usize
 
 // The line that an LF ended.
 fn take_ended(d: Standing, line: &[u8], out: &mut [u8], at: usize) -> Turn
-    ensures { λ r. ⌜ (r .standing ≡ afterLine d (withoutReturn (now (line .entry)))) × Put at (lineAnswer d (withoutReturn (now (line .entry)))) (now (out .entry)) (now (out .exit)) (r .behind) ⌝ }
+    ensures { λ r. ⌜ r .standing ≡ afterLine d (withoutReturn (now (line .entry))) ⌝ }
+    ensures { λ r. ⌜ Put at (lineAnswer d (withoutReturn (now (line .entry)))) (now (out .entry)) (now (out .exit)) (r .behind) ⌝ }
 {
     let size = size_without_return(line);
     take_line(d, &line[..size], out, at)
@@ -343,7 +347,8 @@ fn take_ended(d: Standing, line: &[u8], out: &mut [u8], at: usize) -> Turn
 
 // The same, as it is held.
 fn take_held(d: Standing, held: &[u8], count: usize, out: &mut [u8], at: usize) -> Turn
-    ensures { λ r. ⌜ (r .standing ≡ afterLine d (withoutReturn (take count (now (held .entry))))) × Put at (lineAnswer d (withoutReturn (take count (now (held .entry))))) (now (out .entry)) (now (out .exit)) (r .behind) ⌝ }
+    ensures { λ r. ⌜ r .standing ≡ afterLine d (withoutReturn (take count (now (held .entry)))) ⌝ }
+    ensures { λ r. ⌜ Put at (lineAnswer d (withoutReturn (take count (now (held .entry))))) (now (out .entry)) (now (out .exit)) (r .behind) ⌝ }
 {
     let n = place(held, count);
     take_ended(d, &held[..n], out, at)
@@ -351,7 +356,8 @@ fn take_held(d: Standing, held: &[u8], count: usize, out: &mut [u8], at: usize) 
 
 // One piece more of the input: puts the answers to the lines that end in it, from `at` on and as far as the buffer goes, and answers what is kept.
 pub fn feed(s: State, piece: &[u8], out: &mut [u8], at: usize) -> Fed
-    ensures { λ r. ⌜ (r .state ≡ fedState s (now (piece .entry))) × Put at (fedText s (now (piece .entry))) (now (out .entry)) (now (out .exit)) (r .behind) ⌝ }
+    ensures { λ r. ⌜ r .state ≡ fedState s (now (piece .entry)) ⌝ }
+    ensures { λ r. ⌜ Put at (fedText s (now (piece .entry))) (now (out .entry)) (now (out .exit)) (r .behind) ⌝ }
 {
     let mut standing = s.standing;
     let mut held = s.held;

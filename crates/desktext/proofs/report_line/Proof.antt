@@ -1,6 +1,7 @@
-use mathlib.Core.Path.{_∙_}
+use mathlib.Core.Path.{sym, _∙_}
 use native.Mathlib.Omega.{arith}
-use Rattle.desktext.proofs.Lines.{long-line, no-row, row-reported}
+use Rattle.desktext.specs.Laws.Line.{long-report}
+use Rattle.desktext.proofs.Lines.{no-row, row-reported}
 use borrow.Author.Needs.{needs}
 use Rattle.desktext.proofs.report_line.Statement.{statement}
 use Rattle.desktext.proofs.report_line.Tie as tie
@@ -24,7 +25,7 @@ returns-2 c =
     no-row (a .b) (a .line .now) (omega arith) (read .result) (read .ensures) (c .if2 .left)
 
 returns-3 : tie.Need-returns-3
-returns-3 c = let a = c .before .before .args in long-line (a .b) (a .line .now) (omega arith)
+returns-3 c = let a = c .before .before .args in sym (long-report (a .b) (a .line .now) (omega arith))
 
 pub report-line-spec : {M : Type 1} → statement M
 report-line-spec = tie.close (tie.spec read-row-requires updated-requires returns returns-2 returns-3)

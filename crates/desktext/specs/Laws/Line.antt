@@ -4,8 +4,10 @@ use mathlib.Core.Path.{_≡_, refl, sym, subst, _∙_, ap}
 use mathlib.Core.List.{List, [], _∷_}
 use mathlib.Core.Bool.{cond, Bool, true, false}
 use lib.ListN.{length, take, getD, replicate, length-append}
-use borrow.Author.Tests.{eqb-true, leb-true}
+use borrow.Author.Tests.{eqb-true, leb-true, lt-leb}
 use native.Mathlib.Omega.{arith}
+use Rattle.text.specs.Refusals.{noRow}
+use Rattle.text.specs.Lines.{longest}
 use Rattle.text.specs.Names.{isSpace, isLetter, readCount}
 use Rattle.text.specs.Choice.{_and_, all, headIs}
 use Rattle.text.specs.Piece.{Typed, Typing, done, step, byte1, byte, canonical, end, verbatim, layAll, spell, _then_}
@@ -39,7 +41,7 @@ use Rattle.board.specs.Report.{rowAt}
 use Rattle.board.specs.Shows.{nothing, row, shownAt}
 use Rattle.board.specs.Laws.Rules.{blank-invalid, rules, used, fit-at}
 use Rattle.board.specs.Laws.Demand.{opened-fresh as was-opened}
-use Rattle.desktext.specs.Line.{spacedPieces, readSpaced, makeRunway, openingPieces, readOpening, openingRead, openingLine}
+use Rattle.desktext.specs.Line.{spacedPieces, readSpaced, makeRunway, openingPieces, readOpening, openingRead, openingLine, reportLine}
 
 -- a number of two digits and a side: what a line can hold
 abbrev pub Written : Runway → Type 0
@@ -117,6 +119,11 @@ opening-long line h = go (whole (readOpening line)) refl
         let (v, t) = whole-sound opening-laws {m = line} q in
         let c = cut (verbatim (p .0)) t in
         absurd (omega (arith, letters-long aerodromeSize (p .0) (v .0), v .1 .0, verbatim-short (p .0) (c .left), runways-short (p .1) (c .right)))
+
+-- a line over 4,096 bytes is no row
+pub long-report : (b : Board) (line : List ℕ) → longest < length line → reportLine b line ≡ answer noRow b
+unfolding reportLine
+long-report b line h = rw (lt-leb (length line) longest h)
 
 blank-runway : (w : Runway) → isBlankRunway w ≡ true → w ≡ blankRunway
 unfolding isBlankRunway

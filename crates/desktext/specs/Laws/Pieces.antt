@@ -1,31 +1,28 @@
 -- An input in pieces: what is printed for its pieces and its end is what is printed for its lines.
 use Prim.Native.Nat.{ℕ, suc, _+_, _<_, _≤_}
-use mathlib.Core.Path.{_≡_, refl, sym, subst, _∙_, ap}
+use mathlib.Core.Path.{_≡_, refl, sym, _∙_, ap}
 use mathlib.Core.List.{List, [], _∷_, _++_, append-assoc, append-nil, flatten}
 use mathlib.Core.Bool.{cond, Bool, true, false, not, _&&_}
 use native.Mathlib.Numerals.{add-one}
 use native.Mathlib.Omega.{arith}
 use lib.Dec.{eqb, leb, ltb}
-use lib.ListN.{length, take, set, replicate, length-append, length-set, length-replicate}
+use lib.ListN.{length, take, set, length-append, length-set, length-replicate}
 use lib.Seq.{take-all, take-append-le, take-suc-set, length-take-le}
-use borrow.Author.Tests.{eqb-true, lt-leb, le-leb, leb-true, leb-false, lt-ltb, le-ltb, ne-eqb, eq-eqb, not-true}
+use borrow.Author.Tests.{eqb-true, leb-true, leb-false, lt-ltb, le-ltb, ne-eqb}
 use Rattle.text.specs.Choice.{_and_, all}
 use Rattle.text.specs.Piece.{bytes}
-use Rattle.text.specs.Refusals.{noRow}
-use Rattle.text.specs.Lines.{longest, push, isReturn, lines}
+use Rattle.text.specs.Lines.{longest, push, lines}
 use Rattle.text.specs.Code.Held.{isUnfed}
 use Rattle.text.specs.Laws.Base.{and-1, and-2, and-i, true-false}
 use Rattle.text.specs.Laws.Lines.{all-append}
 use Rattle.board.specs.declared.Board.{Board}
-use Rattle.board.specs.declared.Answer.{Answer}
-use Rattle.board.specs.Board.{answer, refusedOpening}
 use Rattle.desktext.specs.declared.Standing.{Standing}
 use Rattle.desktext.specs.declared.State.{State}
 use Rattle.desktext.specs.Line.{openingLine, reportLine}
 use Rattle.desktext.specs.Desk.{printed, answerLine, answersText, refusedText, linesText, deskText}
 use Rattle.desktext.specs.Pieces.{waiting, keeping, over, standing, openedStanding, openedLine, afterLine, lineAnswer, endAnswer, mostKept, startState}
 use Rattle.desktext.specs.Pieces.{begun, keptByte, withoutReturn, afterByte, byteAnswer, fedState, fedText, finishText, piecesText}
-use Rattle.desktext.specs.Laws.Line.{opening-long}
+use Rattle.desktext.specs.Laws.Line.{opening-long, long-report}
 
 -- ---- Lines
 
@@ -64,7 +61,9 @@ lines-fed (x ∷ []) m h = go (eqb x 10) (eqb x 13) (and-1 _ _ h)
     go true b u = true-false (sym u)
     go false true u = refl
     go false false u = refl
-lines-fed (x ∷ y ∷ r) m h = go (eqb x 10) (eqb x 13) (eqb y 10) (and-1 _ _ h) (and-1 _ _ (and-2 (isUnfed x) _ h)) (lines-fed (y ∷ r) m (and-2 (isUnfed x) _ h))
+lines-fed (x ∷ y ∷ r) m h =
+    let k = and-2 (isUnfed x) _ h in
+    go (eqb x 10) (eqb x 13) (eqb y 10) (and-1 _ _ h) (and-1 _ _ k) (lines-fed (y ∷ r) m k)
   where
     go : (a b c : Bool) → not a ≡ true → not c ≡ true → lines (y ∷ (r ++ (10 ∷ m))) ≡ withoutReturn (y ∷ r) ∷ lines m
         → cond a ([] ∷ lines (y ∷ (r ++ (10 ∷ m)))) (cond (b && c) (lines (y ∷ (r ++ (10 ∷ m)))) (push x (lines (y ∷ (r ++ (10 ∷ m))))))
@@ -83,7 +82,9 @@ lines-unfed x [] h = go (eqb x 10) (eqb x 13) (and-1 _ _ h)
     go true b u = true-false (sym u)
     go false true u = refl
     go false false u = refl
-lines-unfed x (y ∷ r) h = go (eqb x 10) (eqb x 13) (eqb y 10) (and-1 _ _ h) (and-1 _ _ (and-2 (isUnfed x) _ h)) (lines-unfed y r (and-2 (isUnfed x) _ h))
+lines-unfed x (y ∷ r) h =
+    let k = and-2 (isUnfed x) _ h in
+    go (eqb x 10) (eqb x 13) (eqb y 10) (and-1 _ _ h) (and-1 _ _ k) (lines-unfed y r k)
   where
     go : (a b c : Bool) → not a ≡ true → not c ≡ true → lines (y ∷ r) ≡ (y ∷ r) ∷ []
         → cond a ([] ∷ lines (y ∷ r)) (cond (b && c) (lines (y ∷ r)) (push x (lines (y ∷ r)))) ≡ (x ∷ y ∷ r) ∷ []
@@ -99,12 +100,7 @@ record Alike (l k : List ℕ) : Type 0 where
   after : (d : Standing) → afterLine d l ≡ afterLine d k
   says : (d : Standing) → lineAnswer d l ≡ lineAnswer d k
 
--- a line over 4,096 bytes is no row
-pub long-report : (b : Board) (line : List ℕ) → longest < length line → reportLine b line ≡ answer noRow b
-unfolding reportLine
-long-report b line h = rw (lt-leb (length line) longest h)
-
--- whatever its bytes are
+-- over-long lines are alike, whatever their bytes are
 long-alike : (l k : List ℕ) → longest < length l → longest < length k → Alike l k
 unfolding afterLine lineAnswer
 long-alike l k h g =
@@ -187,7 +183,8 @@ run-end s (x ∷ r) k =
     (from-line (s .standing) (x ∷ r) [] ∙ ap (from (s .standing)) (sym (lines-unfed x r (k .unfed))))
 
 -- one byte more, where the rest of the input is known to go well
-module _ (s : State) (r : List ℕ) (k : Keeps s r) (x : ℕ) (m : List ℕ) (ih : (t : State) (q : List ℕ) → Keeps t q → run t m ≡ from (t .standing) (lines (q ++ m))) where
+module _ (s : State) (r : List ℕ) (k : Keeps s r) (x : ℕ) (m : List ℕ)
+    (ih : (t : State) (q : List ℕ) → Keeps t q → run t m ≡ from (t .standing) (lines (q ++ m))) where
   run-fed-byte : eqb x 10 ≡ true → byteAnswer s x ++ run (afterByte s x) m ≡ from (s .standing) (lines (r ++ (x ∷ m)))
   unfolding afterByte byteAnswer
   run-fed-byte e =
@@ -201,8 +198,8 @@ module _ (s : State) (r : List ℕ) (k : Keeps s r) (x : ℕ) (m : List ℕ) (ih
   run-kept-byte e =
       rw (e, ih (keptByte s x) (r ++ (x ∷ [])) (kept-more s r x k e), append-assoc) (same (ltb (s .count) mostKept))
     where
-      same : (t : Bool) → from (cond t (record { standing = s .standing; held = set (s .held) (s .count) x; count = s .count + 1 }) s .standing) (lines (r ++ (x ∷ m)))
-          ≡ from (s .standing) (lines (r ++ (x ∷ m)))
+      same : (t : Bool) → from (cond t (record { standing = s .standing; held = set (s .held) (s .count) x; count = s .count + 1 }) s .standing)
+          (lines (r ++ (x ∷ m))) ≡ from (s .standing) (lines (r ++ (x ∷ m)))
       same true = refl
       same false = refl
 
