@@ -175,8 +175,7 @@ pub fn read_remarks(closed: bool, m: &[u8]) -> RemarksRead
         if !read.fits {
             break 'lines refusal::WRONG_ITEMS;
         }
-        let found = read.items;
-        items = found;
+        items = read.items;
         count = read.count;
         if stop < end {
             if count == 0 {
