@@ -4,17 +4,16 @@ use mathlib.Core.Path.{_≡_, refl, sym, _∙_, ap}
 use mathlib.Core.List.{List, [], _∷_}
 use mathlib.Core.Bool.{cond, Bool, true, false}
 use native.Mathlib.Omega.{arith}
-use lib.Dec.{eqb}
 use lib.ListN.{drop}
 use Rattle.text.specs.Choice.{_and_}
-use Rattle.text.specs.Read.{Got, misfit, got, guard, andThen, skip, readText, readGap, readIf, readWord}
+use Rattle.text.specs.Read.{Got, misfit, got, guard, readText, readGap, readIf, readWord}
 use Rattle.text.specs.Names.{readName}
 use Rattle.text.specs.Texts.{named}
 use Rattle.text.specs.Numbers.{readDigits, readNumber}
 use Rattle.text.specs.Code.Held.{Held, none}
 use Rattle.text.specs.Laws.Held.{held-text}
 use Rattle.text.specs.Laws.Numbers.{number-laws, digits-laws}
-use Rattle.text.specs.Laws.Words.{first-cut}
+use Rattle.text.specs.Laws.Words.{text-cut, first-cut}
 use Rattle.text.specs.declared.Found.{Found}
 use Rattle.items.specs.Item.{validItem}
 use Rattle.items.specs.ItemText.{edgeName}
@@ -43,21 +42,12 @@ module _ (t m : List ℕ) (v : ℕ) {k : List ℕ} {r : Found} (h : Held k (read
   text-off e = held-text t m v h ∙ ap (λ (b : Bool). cond b (got tt (drop (r .next) k)) misfit) e
 
 -- a text that begins with a space: its gap is read, and then what stands behind it
-text-gap : (t m : List ℕ) → readText (32 ∷ t) m ≡ readGap (readText t) m
-unfolding readText
-text-gap t [] = refl
-text-gap t (x ∷ m) = go (eqb 32 x)
-  where
-    go : (b : Bool) → guard b (readText t (skip m)) ≡ andThen (guard b (readText [] (skip m))) (λ _ k. readText t k)
-    go true = refl
-    go false = refl
-
 module _ (t m : List ℕ) {k : List ℕ} {g : Found} (h : Held k (readWord (32 ∷ []) 0 m) g) where
   pub text-gapless : g .fits ≡ false → readText (32 ∷ t) m ≡ misfit
-  text-gapless x = text-gap t m ∙ rw (text-off (32 ∷ []) m 0 h x)
+  text-gapless x = text-cut (32 ∷ []) t m ∙ rw (text-off (32 ∷ []) m 0 h x)
 
   pub text-behind : g .fits ≡ true → readText (32 ∷ t) m ≡ readText t (drop (g .next) k)
-  text-behind x = text-gap t m ∙ rw (text-there (32 ∷ []) m 0 h x)
+  text-behind x = text-cut (32 ∷ []) t m ∙ rw (text-there (32 ∷ []) m 0 h x)
 
 -- all that is said begins with a gap
 pub sayings-gap : (m : List ℕ) → readName saying sayings m ≡ readGap (readName (unspaced saying) sayings) m

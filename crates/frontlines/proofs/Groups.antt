@@ -10,7 +10,7 @@ use lib.ListN.{length, take, drop, length-drop, drop-of-length-le}
 use lib.Seq.{drop-cons, drop-drop, take-all}
 use borrow.Author.Tests.{eqb-true, eqb-false}
 use Rattle.text.specs.Choice.{_and_, all}
-use Rattle.text.specs.Read.{Got, misfit, got, guard, andThen, orElse, readGap, whole, readWord}
+use Rattle.text.specs.Read.{Got, misfit, got, guard, andThen, readGap, whole, readWord}
 use Rattle.text.specs.Names.{isLetter, inClass, readCount}
 use Rattle.text.specs.Arrays.{slots, pastSlots}
 use Rattle.text.specs.Code.Held.{Spanned, Held, isGot}
@@ -153,7 +153,3 @@ module _ (s : List ℕ) (at n : ℕ) (r : Span) (h : Spanned (take (length s - a
 
   pub span-within : at ≤ length s → at + r .next ≤ length s
   span-within k = omega (arith, h .within, ap length (part-all at s), length-drop at s)
-
-pub else-none : {A : Type 0} (g : Got A) → orElse g misfit ≡ g
-else-none misfit = refl
-else-none (got a r) = refl

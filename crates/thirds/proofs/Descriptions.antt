@@ -13,16 +13,12 @@ use Rattle.text.specs.Names.{readName}
 use Rattle.text.specs.Code.Held.{Held, none}
 use Rattle.text.specs.Put.{Put}
 use Rattle.text.specs.declared.Found.{Found}
-use Rattle.text.specs.Laws.Base.{true-false}
+use Rattle.text.specs.Laws.Base.{else-none, true-false}
 use Rattle.surface.specs.Descriptions.{dry, descriptionName}
 use Rattle.thirds.specs.Groups.{descriptionPieces, descriptionOrder, readDescription}
 use Rattle.thirds.specs.Code.Held.{Tried}
 use Rattle.thirds.specs.Laws.Sizes.{no-name}
 use Rattle.thirds.proofs.Steps.{nothing}
-
-else-none : {A : Type 0} (g : Got A) → orElse g misfit ≡ g
-else-none misfit = refl
-else-none (got a r) = refl
 
 else-assoc : {A : Type 0} (f g h : Got A) → orElse (orElse f g) h ≡ orElse f (orElse g h)
 else-assoc misfit g h = refl

@@ -1,6 +1,6 @@
 use borrow.Author.Needs.{needs}
 use Rattle.text.specs.Names.{readName}
-use Rattle.frontlines.proofs.Groups.{else-none}
+use Rattle.text.specs.Laws.Base.{else-none}
 use Rattle.frontlines.proofs.priority.Statement.{statement}
 use Rattle.frontlines.proofs.priority.Tie as tie
 

@@ -7,7 +7,8 @@ use lib.Dec.{eqb}
 use Rattle.text.specs.Read.{Got, misfit, got, guard, orElse, andThen, after, readText, readAfter, readWord}
 use Rattle.text.specs.Texts.{Texts, readFirst, behind}
 
-text-cut : (p q m : List ℕ) → readText (p ++ q) m ≡ readAfter p (readText q) m
+-- a text is read in two parts, and so is one with a value
+pub text-cut : (p q m : List ℕ) → readText (p ++ q) m ≡ readAfter p (readText q) m
 unfolding readText
 text-cut [] q m = refl
 text-cut (c ∷ p) q [] = refl
@@ -18,7 +19,6 @@ text-cut (c ∷ p) q (x ∷ m) = go (eqb c x) (text-cut p q (after c m))
     go true h = h
     go false h = refl
 
--- a text is read in two parts
 word-cut : (p q : List ℕ) (v : ℕ) (m : List ℕ) → readWord (p ++ q) v m ≡ readAfter p (readWord q v) m
 word-cut p q v m = rw (text-cut p q m) (go (readText p m))
   where
