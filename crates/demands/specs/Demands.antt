@@ -1,4 +1,4 @@
--- The three demands, clause by clause and in their order. What a theorem assumes is what public functions promise, as their `ensures` say it; what it
+-- The three demands, clause by clause and in their order. What a theorem assumes is what functions promise, as their `ensures` say it; what it
 -- concludes is the clause that is quoted above it, behind which stands the function.
 use Prim.Native.Nat.{ℕ, _<_, _≤_, _+_, _*_}
 use mathlib.Core.Path.{_≡_, refl, sym, subst, _∙_, ap}
