@@ -78,6 +78,8 @@ pub record Inputs : Type 0 where
   refused-in-pieces : fed (text ("XQAA" ∷ []) ∷ text ("XQAA 07L" ∷ "01120610 07L 6/6/6 DRY/DRY/DRY" ∷ []) ∷ []) ≡ text ("REFUSED 17" ∷ [])
   -- the desk's three phases, and how much of a line is kept
   phases : waiting ∷ keeping ∷ over ∷ mostKept ∷ [] ≡ 0 ∷ 1 ∷ 2 ∷ 4098 ∷ []
+  -- nothing is held before the first piece
+  begins : startState .held ≡ replicate 4098 0
 
 pub inputs : Inputs
 unfolding _and_ lines spell skip readText readMany readName readCount digits readDigits isShortMonth daysOf realDay realClock realTime later validRunway
@@ -104,4 +106,5 @@ inputs = record {
   longer = whole (spaced 4068);
   refused-in-pieces = refl;
   phases = refl;
+  begins = refl;
 }
