@@ -1,12 +1,14 @@
 //! Seeded inputs: records in every shape, typings of them in every freedom, and damage.
+mod board;
 mod damage;
 mod desk;
 mod numbers;
 mod records;
 mod typing;
 
+pub use board::{board_notice, session};
 pub use damage::damaged;
-pub use desk::{desk_input, row_line};
+pub use desk::{desk_input, opening_line, row_line};
 pub use numbers::{numbers, observation};
 pub use records::record;
 pub use typing::{stretched, typing};

@@ -48,7 +48,7 @@ const MONTH_DAYS: [u32; 12] = [31, 29, 31, 30, 31, 30, 31, 31, 30, 31, 30, 31];
 const SIDES: [&str; 4] = ["", "L", "C", "R"];
 
 /// A runway's number and side: 0 none, 1 L, 2 C, 3 R. Ordered as a board's runways rise.
-#[derive(Clone, Copy, Debug, PartialEq, Eq, PartialOrd, Ord)]
+#[derive(Clone, Copy, Debug, Default, PartialEq, Eq, PartialOrd, Ord)]
 pub struct Runway {
     pub number: u8,
     pub side: u8,
@@ -98,6 +98,11 @@ impl Runway {
         (1..=greatest).contains(&number).then_some(Runway { number, side })
     }
 
+    /// Whether a row may name it: one given as numbers can be any.
+    pub fn is_reported(&self) -> bool {
+        (1..=REPORTED).contains(&self.number) && usize::from(self.side) < SIDES.len()
+    }
+
     pub fn text(&self) -> String {
         let side = SIDES.get(usize::from(self.side)).copied().unwrap_or("?");
         format!("{:02}{side}", self.number)
@@ -120,8 +125,7 @@ impl Third {
 impl Row {
     pub fn is_valid(&self) -> bool {
         is_real_time(self.time)
-            && (1..=REPORTED).contains(&self.runway.number)
-            && self.runway.side <= 3
+            && self.runway.is_reported()
             && self.thirds.iter().all(Third::is_valid)
             && self.width <= 99
     }

@@ -2,10 +2,10 @@
 use std::io;
 
 use crate::assess::{agreement, assess};
-use crate::desk::desk;
+use crate::desk::{desk, live, notice};
 use crate::generate::{self, Rng, Sample};
 use crate::models;
-use crate::reader::{read, same, write, LONGEST_MESSAGE};
+use crate::reader::{read, same, write, Record, LONGEST_MESSAGE};
 use crate::report::Report;
 use crate::row::{Row, Runway, Third};
 use crate::test_run::row;
@@ -67,6 +67,56 @@ fn numbers(rng: &mut Rng, report: &mut Report) {
     }
 }
 
+/// A notice reads back as its model but for the aerodrome and the rows, which are those that the desk prints.
+fn board_notice(rng: &mut Rng, report: &mut Report) {
+    let (input, model) = generate::board_notice(rng);
+    let told = notice(&input, &model);
+    report.count(told.as_ref().err().copied().unwrap_or(0));
+    let text = match told {
+        Ok(text) => text,
+        Err(_) => return,
+    };
+    let printed = desk(&input);
+    // An answer has one or two digits, and any row is longer.
+    let shown = lines(&printed).into_iter().skip(1).filter(|line| line.len() > 2);
+    let fits = match (read(&text), read(&model)) {
+        (Ok(record), Ok(model)) => {
+            let rows = record.rows.iter().map(|row| row.text().into_bytes());
+            text.len() <= LONGEST_MESSAGE
+                && input.starts_with(&record.aerodrome)
+                && rows.eq(shown)
+                && model == Record { aerodrome: model.aerodrome, rows: model.rows.clone(), ..record }
+        }
+        _ => false,
+    };
+    if !fits {
+        let both = [&input[..], b"\n--- and\n", &model].concat();
+        report.differ("notice", &both, "the rows printed and the rest of the model", &text.escape_ascii().to_string());
+    }
+}
+
+/// A board that opens with numbers tells what the desk tells of the same board and lines.
+fn session(rng: &mut Rng, report: &mut Report) {
+    let session = generate::session(rng);
+    let told = live(&session);
+    if told == b"REFUSED 17\n" {
+        report.count(17);
+        return;
+    }
+    report.count(0);
+    let mut input = Vec::new();
+    let first = generate::opening_line(&session.aerodrome, &session.runways[..usize::from(session.count)]);
+    for line in std::iter::once(&first).chain(&session.lines) {
+        input.extend(line);
+        // Not LF alone, before which a CR of the line would be no text.
+        input.extend_from_slice(b"\r\n");
+    }
+    let expected = desk(&input);
+    if told != expected {
+        report.differ("session", &input, &expected.escape_ascii().to_string(), &told.escape_ascii().to_string());
+    }
+}
+
 /// Rows.py's own rows, and generated ones.
 fn row_model(rng: &mut Rng, count: usize, report: &mut Report) -> io::Result<()> {
     row_lines("its own", &models::lines()?, report)?;
@@ -119,8 +169,9 @@ pub fn run(count: usize, seed: u64) -> bool {
     let mut report = Report::new();
     (0..count).for_each(|_| message(&mut rng, &mut report));
     report.print_counts("messages");
+    let tenth = count / 10;
     let mut equal = 0;
-    for _ in 0..count / 10 {
+    for _ in 0..tenth {
         let (one, other) = generate::pair(&mut rng);
         let answer = same(&one, &other);
         equal += usize::from(answer);
@@ -128,7 +179,7 @@ pub fn run(count: usize, seed: u64) -> bool {
             report.differ("sameness", &one, "either way", &other.escape_ascii().to_string());
         }
     }
-    println!("pairs that tell the same: {equal} of {}", count / 10);
+    println!("pairs that tell the same: {equal} of {tenth}");
     (0..count).for_each(|_| observation(&mut rng, &mut report));
     report.print_counts("observations");
     (0..count).for_each(|_| numbers(&mut rng, &mut report));
@@ -138,9 +189,12 @@ pub fn run(count: usize, seed: u64) -> bool {
     if let Err(error) = &asked {
         println!("the models in Python were not asked: {error}");
     }
+    (0..tenth).for_each(|_| board_notice(&mut rng, &mut report));
+    report.print_counts("notices of a board");
+    (0..tenth).for_each(|_| session(&mut rng, &mut report));
+    report.print_counts("boards opened with numbers");
     println!(
-        "{count} messages, {} pairs, {count} observations, {count} rows, {} differences",
-        count / 10,
+        "{count} messages, {tenth} pairs, {count} observations, {count} rows, {} differences",
         report.differences()
     );
     asked.is_ok() && report.differences() == 0

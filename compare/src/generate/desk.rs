@@ -5,7 +5,8 @@ use super::typing::{loosened, Pace};
 use super::Rng;
 use crate::row::{Runway, REPORTED};
 
-fn opening(rng: &mut Rng) -> (Vec<u8>, Vec<Runway>) {
+/// An aerodrome and runways that rise; now and then one too many.
+pub fn opening(rng: &mut Rng) -> ([u8; 4], Vec<Runway>) {
     let count = if rng.chance(3) { 9 } else { rng.between(1, 8) };
     let mut runways: Vec<Runway> = Vec::new();
     while runways.len() < count {
@@ -15,12 +16,16 @@ fn opening(rng: &mut Rng) -> (Vec<u8>, Vec<Runway>) {
         }
     }
     runways.sort();
-    let mut line = word::<4>(rng).to_vec();
-    for runway in &runways {
+    (word(rng), runways)
+}
+
+pub fn opening_line(aerodrome: &[u8; 4], runways: &[Runway]) -> Vec<u8> {
+    let mut line = aerodrome.to_vec();
+    for runway in runways {
         line.push(b' ');
         line.extend(runway.text().into_bytes());
     }
-    (line, runways)
+    line
 }
 
 fn bad_opening(rng: &mut Rng, line: &mut Vec<u8>, runways: &[Runway]) {
@@ -68,15 +73,12 @@ pub fn row_line(rng: &mut Rng, runways: &[Runway]) -> Vec<u8> {
     line
 }
 
-/// A whole input of the desk program.
-pub fn desk_input(rng: &mut Rng) -> Vec<u8> {
-    let (mut first, runways) = opening(rng);
-    if rng.chance(15) {
-        bad_opening(rng, &mut first, &runways);
-    }
-    let mut lines = vec![first];
-    for _ in 0..rng.pick(&[0, 1, 2, 5, 10, 20, 40]) {
-        let mut line = row_line(rng, &runways);
+/// The lines reported to a board, some of them at the longest length and over it.
+pub fn row_lines(rng: &mut Rng, runways: &[Runway]) -> Vec<Vec<u8>> {
+    let count = rng.pick(&[0, 1, 2, 5, 10, 20, 40]);
+    let mut lines = Vec::new();
+    for _ in 0..count {
+        let mut line = row_line(rng, runways);
         if rng.chance(5) {
             let length: usize = rng.pick(&[4095, 4096, 4096, 4097, 4097, 4098, 9000]);
             if let Some(place) = line.iter().position(|&byte| byte == b' ') {
@@ -86,12 +88,29 @@ pub fn desk_input(rng: &mut Rng) -> Vec<u8> {
         }
         lines.push(line);
     }
+    lines
+}
+
+/// An opening line and the lines after it with their ends.
+pub fn ended(rng: &mut Rng, first: Vec<u8>, reports: Vec<Vec<u8>>) -> Vec<u8> {
     let crs = rng.pick(&[0, 0, 30, 100]);
     let mut input = Vec::new();
-    for line in lines {
+    for line in std::iter::once(first).chain(reports) {
         input.extend(line);
         input.extend_from_slice(if rng.chance(crs) { b"\r\n" } else { b"\n" });
     }
+    input
+}
+
+/// A whole input of the desk program.
+pub fn desk_input(rng: &mut Rng) -> Vec<u8> {
+    let (aerodrome, runways) = opening(rng);
+    let mut first = opening_line(&aerodrome, &runways);
+    if rng.chance(15) {
+        bad_opening(rng, &mut first, &runways);
+    }
+    let reports = row_lines(rng, &runways);
+    let mut input = ended(rng, first, reports);
     match rng.below(20) {
         0..=3 => {
             input.pop();
