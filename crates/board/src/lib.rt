@@ -19,6 +19,7 @@ use runway::is_later;
 use runway::valid_runway;
 use text::refusal;
 
+#[repr(C)]
 pub struct Runway {
     pub number: u8,
     // 0 none, 1 L, 2 C, 3 R
@@ -26,6 +27,7 @@ pub struct Runway {
 }
 
 // Zeros in every place that is unused or unreported.
+#[repr(C)]
 pub struct Board {
     pub aerodrome: [u8; 4],
     pub count: u8,
@@ -34,6 +36,7 @@ pub struct Board {
 }
 
 // A refusal number, 0 for taken, and the board afterwards.
+#[repr(C)]
 pub struct Answer {
     pub refusal: u8,
     pub board: Board,

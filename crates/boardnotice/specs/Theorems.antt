@@ -1,25 +1,30 @@
 -- What writing a board gives, and that buffers of one length get the same notice of it, whatever they hold (demand 3).
 use Prim.Native.Nat.{ℕ, _≤_}
-use mathlib.Core.Path.{_≡_, sym, _∙_, ap}
+use mathlib.Core.Path.{_≡_, refl, sym, _∙_, ap}
 use mathlib.Core.List.{List, []}
 use mathlib.Core.Bool.{cond, not, Bool, true, false}
-use lib.Dec.{eqb}
+use lib.Dec.{eqb, leb}
 use lib.ListN.{length, take}
 use native.Mathlib.Omega.{arith}
-use Rattle.text.specs.Choice.{isEmpty}
+use Rattle.text.specs.Choice.{_and_, isEmpty}
 use Rattle.items.specs.declared.Items.{Items}
 use Rattle.items.specs.declared.Language.{Language}
 use Rattle.record.specs.declared.Record.{Record}
 use Rattle.notice.specs.declared.Written.{Written}
-use Rattle.record.specs.Record.{validRecord}
+use Rattle.record.specs.Record.{validRecord, blankRecord}
 use Rattle.record.specs.Notice.{noticeText}
+use Rattle.notice.specs.Reading.{reading}
 use Rattle.notice.specs.Writing.{unwritten, writing, written}
-use Rattle.notice.specs.Theorems.{Filled, untouched, wrote-filled}
+use Rattle.notice.specs.Theorems.{Filled, untouched, wrote-filled, read-valid, refused-blank}
 use Rattle.board.specs.declared.Board.{Board}
 use Rattle.boardnotice.specs.declared.Details.{Details}
-use Rattle.board.specs.Board.{validBoard}
+use Rattle.board.specs.Board.{validBoard, validList, isAerodrome, blankBoard}
+use Rattle.frontlines.specs.Letters.{isLetters}
+use Rattle.desktext.specs.Desk.{deskBoard}
+use Rattle.frontlines.specs.Addresses.{validAddresses}
 use Rattle.boardnotice.specs.Writing.{reported, boardRecord, writingBoard, writtenBoard, WroteBoard}
-use Rattle.boardnotice.specs.Laws.Writing.{detailsOf, board-written}
+use Rattle.boardnotice.specs.DeskNotice.{detailsOf, WroteDeskNotice}
+use Rattle.boardnotice.specs.Laws.Writing.{board-record, board-written}
 
 -- the board's notice is written: as many bytes as are answered are its text, none where the writing is refused, and then every byte is as before
 pub board-filled : {b : Board} {d : Details} {i : Items} {l : Language} {before after : List ℕ} {w : Written} → WroteBoard b d i l before after w
@@ -68,3 +73,36 @@ board-writes b v some r h room fits = ap (λ w. w .refusal) (board-written b v s
 pub wrote-one : {b : Board} {d : Details} {i : Items} {l : Language} {before x y : List ℕ} {v w : Written} → WroteBoard b d i l before x v
     → WroteBoard b d i l before y w → (v ≡ w) × (x ≡ y)
 wrote-one p q = (p .answer ∙ sym (q .answer), p .holds ∙ sym (q .holds))
+
+-- the details of a refused model make no record
+no-model : (b : Board) (i : Items) (l : Language) → validRecord (boardRecord b (detailsOf blankRecord) i l) ≡ false
+unfolding validRecord validAddresses _and_
+no-model b i l = refl
+
+-- a desk's input written as a notice
+module _ (desk model : List ℕ) {before after : List ℕ} {w : Written} (p : WroteDeskNotice desk model before after w) where
+  -- 17 where no board opens: the desk keeps the blank one
+  pub unopened : deskBoard desk ≡ blankBoard → w ≡ unwritten 17
+  unfolding validBoard validList isAerodrome isLetters _and_
+  unopened e = p .answer ∙ writes-17 _ _ _ _ _ (ap validBoard e)
+
+  module _ (v : validBoard (deskBoard desk) ≡ true) where
+    -- 21 where it has no report
+    pub unreported : reported (deskBoard desk .rows) ≡ [] → w ≡ unwritten 21
+    unreported e = p .answer ∙ writes-21 _ _ _ _ _ v e
+
+    module _ (some : isEmpty (reported (deskBoard desk .rows)) ≡ false) where
+      -- 13 where the model is refused
+      pub unmodelled : (reading model .refusal ≡ 0 → ⊥) → w ≡ unwritten 13
+      unfolding writing
+      unmodelled refused = p .answer ∙ writes _ _ _ _ _ v some ∙ (rw (refused-blank model refused, no-model (deskBoard desk) (blankRecord .items) (blankRecord .language)) refl)
+
+      -- else the board's notice with what the model says, or 14
+      pub modelled : reading model .refusal ≡ 0
+          → let r = reading model .«record» in
+          let text = noticeText (boardRecord (deskBoard desk) (detailsOf r) (r .items) (r .language)) in
+          w ≡ cond (leb (length text) (length before)) (record { refusal = 0; length = length text }) (unwritten 14)
+      unfolding writing
+      modelled ok =
+          p .answer ∙ writes _ _ _ _ _ v some
+          ∙ (rw (board-record (deskBoard desk) v some (reading model .«record») (read-valid model (reading model) refl ok)) refl)

@@ -3,16 +3,19 @@
 ghost use mathlib.Core.Path.{_≡_};
 ghost use Rattle.body.specs.Rows.{makeRows};
 ghost use Rattle.boardnotice.specs.Writing.{reported, boardRecord, WroteBoard};
+ghost use Rattle.boardnotice.specs.DeskNotice.{detailsOf, WroteDeskNotice};
 use board::Board;
 use board::PLACES;
 use board::valid_board;
 use body::Rows;
+use desktext::desk_board;
 use frontlines::Addresses;
 use frontlines::Filing;
 use frontlines::Title;
 use items::Items;
 use items::Language;
 use notice::Written;
+use notice::read;
 use notice::write;
 use record::Record;
 use row::Row;
@@ -21,6 +24,7 @@ use row::is_blank_row;
 use text::refusal;
 
 // What the heading of a notice says besides the aerodrome and the time.
+#[repr(C)]
 pub struct Details {
     pub addresses: Addresses,
     pub filing: Filing,
@@ -95,4 +99,34 @@ pub fn write_board(
         refusal: refusal::WRONG_BOARD,
         length: 0,
     }
+}
+
+// What the heading of a record says besides the aerodrome and the time.
+fn details_of(r: Record) -> Details
+    ensures { λ d. ⌜ d ≡ detailsOf r ⌝ }
+{
+    let addresses = r.addresses;
+    let filing = r.filing;
+    let title = r.title;
+    let region = title.region;
+    Details {
+        addresses,
+        filing,
+        region,
+        serial: title.serial,
+    }
+}
+
+// Writes the notice of the board after a desk's input, with the details, items and plain language of a message: 17, 21, 13, 14.
+// The record of a refused message is all zeros, so that writing it is refused by 13.
+pub fn board_notice(desk: &[u8], model: &[u8], buffer: &mut [u8]) -> Written
+    ensures { λ w. ⌜ WroteDeskNotice (now (desk .entry)) (now (model .entry)) (now (buffer .entry)) (now (buffer .exit)) w ⌝ }
+{
+    let board = desk_board(desk);
+    let reading = read(model);
+    let record = reading.record;
+    let items = record.items;
+    let language = record.language;
+    let details = details_of(record);
+    write_board(board, details, items, language, buffer)
 }

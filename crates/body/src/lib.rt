@@ -30,6 +30,7 @@ use text::place;
 use text::refusal;
 
 // 1 to 8 rows, zeros past the count.
+#[repr(C)]
 pub struct Rows {
     pub count: u8,
     pub rows: [Row; 8],

@@ -59,9 +59,9 @@ use Rattle.boardnotice.specs.declared.Details.{Details}
 use Rattle.boardnotice.specs.Writing.{reported, boardRecord, writingBoard, WroteBoard}
 use Rattle.boardnotice.specs.Theorems as BoardNotice
 use Rattle.desktext.specs.Line.{readOpening, openingRead, openingLine, reportRead, reportLine}
-use Rattle.desktext.specs.Desk.{printed, shownRows, deskText}
+use Rattle.desktext.specs.Desk.{printed, shownRows, deskText, reportLines}
 use Rattle.desktext.specs.Laws.Line.{Opens}
-use Rattle.desktext.specs.Laws.Desk.{line-opens, no-opening, RowsTold, lines-tell, reportLines, lines-report}
+use Rattle.desktext.specs.Laws.Desk.{line-opens, no-opening, RowsTold, lines-tell, lines-report}
 use Rattle.desktext.specs.Theorems as Desk
 use Rattle.desktext.specs.Theorems.{answerLines}
 

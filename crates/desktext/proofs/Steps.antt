@@ -21,7 +21,7 @@ use Rattle.desktext.specs.declared.State.{State}
 use Rattle.desktext.specs.Line.{openingLine, reportLine, shownText}
 use Rattle.desktext.specs.Desk.{answerLine, shownRows, refusedText, deskText}
 use Rattle.desktext.specs.Pieces.{keeping, standing, openedStanding, openedLine, afterLine, lineAnswer, endAnswer, mostKept, begun, withoutReturn}
-use Rattle.desktext.specs.Pieces.{startState, afterByte, byteAnswer, fedState, fedText, finishText, piecesText}
+use Rattle.desktext.specs.Pieces.{startState, afterByte, byteAnswer, fedState, fedText, lastStanding, lastText, finishText, piecesText}
 use Rattle.desktext.specs.Theorems.{pieces}
 
 -- one place more
@@ -124,13 +124,13 @@ reached-take m i n h = go (leb i (length m)) refl
 -- ---- The end of the input
 
 module _ (s : State) where
-  pub finish-none : s .count ≡ 0 → finishText s ≡ endAnswer (s .standing)
-  unfolding finishText
-  finish-none e = rw e
+  pub last-none : s .count ≡ 0 → (lastStanding s ≡ s .standing) × (lastText s ≡ [])
+  unfolding lastStanding lastText
+  last-none e = rw e (refl, refl)
 
-  pub finish-some : (s .count ≡ 0 → ⊥) → finishText s ≡ lineAnswer (s .standing) (begun s) ++ endAnswer (afterLine (s .standing) (begun s))
-  unfolding finishText
-  finish-some e = rw (ne-eqb (s .count) 0 e)
+  pub last-some : (s .count ≡ 0 → ⊥) → (lastStanding s ≡ afterLine (s .standing) (begun s)) × (lastText s ≡ lineAnswer (s .standing) (begun s))
+  unfolding lastStanding lastText
+  last-some e = rw (ne-eqb (s .count) 0 e) (refl, refl)
 
 -- ---- Byte by byte
 

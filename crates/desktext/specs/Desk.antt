@@ -8,7 +8,7 @@ use Rattle.text.specs.Numbers.{number}
 use Rattle.text.specs.Lines.{lines}
 use Rattle.board.specs.declared.Board.{Board}
 use Rattle.board.specs.declared.Answer.{Answer}
-use Rattle.board.specs.Board.{places}
+use Rattle.board.specs.Board.{places, blankBoard}
 use Rattle.board.specs.Report.{rowAt}
 use Rattle.desktext.specs.Line.{openingLine, reportLine, shownText}
 
@@ -46,3 +46,21 @@ linesText (l ∷ ls) = openedText (openingLine l) ls
 -- all that the desk program prints
 unfoldable pub deskText : List ℕ → List ℕ
 deskText input = linesText (lines input)
+
+-- the board after row lines, one by one
+unfoldable pub reportLines : Board → List (List ℕ) → Board
+reportLines b [] = b
+reportLines b (l ∷ ls) = reportLines (reportLine b l .board) ls
+
+-- a refused opening stops the desk
+abbrev pub openedBoard : Answer → List (List ℕ) → Board
+openedBoard a ls = cond (eqb (a .refusal) 0) (reportLines (a .board) ls) (a .board)
+
+-- no line opens nothing
+abbrev pub linesBoard : List (List ℕ) → Board
+linesBoard [] = blankBoard
+linesBoard (l ∷ ls) = openedBoard (openingLine l) ls
+
+-- the board that the desk program keeps after a whole input
+unfoldable pub deskBoard : List ℕ → Board
+deskBoard input = linesBoard (lines input)

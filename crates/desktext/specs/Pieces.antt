@@ -92,10 +92,17 @@ unfoldable pub fedText : State → List ℕ → List ℕ
 fedText s [] = []
 fedText s (x ∷ m) = byteAnswer s x ++ fedText (afterByte s x) m
 
--- what is printed at the end of the input, whose last line may lack its end
+-- the desk after a last line that lacks its end
+unfoldable pub lastStanding : State → Standing
+lastStanding s = cond (eqb (s .count) 0) (s .standing) (afterLine (s .standing) (begun s))
+
+-- what it prints for that line
+unfoldable pub lastText : State → List ℕ
+lastText s = cond (eqb (s .count) 0) [] (lineAnswer (s .standing) (begun s))
+
+-- what is printed at the end of the input
 unfoldable pub finishText : State → List ℕ
-finishText s =
-    cond (eqb (s .count) 0) (endAnswer (s .standing)) (lineAnswer (s .standing) (begun s) ++ endAnswer (afterLine (s .standing) (begun s)))
+finishText s = lastText s ++ endAnswer (lastStanding s)
 
 -- all that is printed for pieces, one after the other, and then the end
 unfoldable pub piecesText : State → List (List ℕ) → List ℕ

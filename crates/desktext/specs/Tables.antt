@@ -25,7 +25,7 @@ use Rattle.board.specs.Report.{placeOf, isNews, report}
 use Rattle.desktext.specs.Line.{readSpaced, readOpening, openingLine, reportLine, shownText}
 use Rattle.desktext.specs.Desk.{answerLine, shownRows, answersText, deskText}
 use Rattle.desktext.specs.Pieces.{waiting, keeping, over, mostKept, startState, afterLine, lineAnswer, endAnswer, withoutReturn, afterByte, byteAnswer}
-use Rattle.desktext.specs.Pieces.{fedState, fedText, finishText, piecesText}
+use Rattle.desktext.specs.Pieces.{fedState, fedText, lastStanding, lastText, finishText, piecesText}
 use Rattle.desktext.specs.Theorems.{pieces as whole}
 
 -- lines, each ended by LF
@@ -87,7 +87,7 @@ unfolding _and_ lines spell skip readText readMany readName readCount digits rea
     readDescription thirdPieces readThird readGroup threeThat isBlankRow validRow isBare isSix isDry isShort middlePieces widthPieces rowPieces readFull
     readShort readWidth readRow isLetters readAerodrome isAerodrome isBlankRunway comesBefore rises rising validList names fitsPlace fitPlaces validPlaces
     validBoard opening placeOf isNews report readSpaced readOpening openingLine reportLine shownText answerLine shownRows answersText deskText
-    afterLine lineAnswer endAnswer withoutReturn afterByte byteAnswer fedState fedText finishText piecesText flatten
+    afterLine lineAnswer endAnswer withoutReturn afterByte byteAnswer fedState fedText lastStanding lastText finishText piecesText flatten
 inputs = record {
   reports = refl;
   order = refl;

@@ -13,16 +13,17 @@ use Rattle.text.specs.Laws.Put.{whole-put, measured}
 use Rattle.text.specs.Laws.Sizes.{size, number-size}
 use Rattle.row.specs.declared.Row.{Row}
 use Rattle.board.specs.declared.Board.{Board}
-use Rattle.desktext.specs.Laws.Desk.{shown-size, RowsTold, reportLines, lines-report}
+use Rattle.desktext.specs.Laws.Desk.{shown-size, no-opening, RowsTold, lines-report}
 use Rattle.desktext.specs.Line.{openingLine, reportLine}
-use Rattle.board.specs.Board.{places, answer}
+use Rattle.board.specs.Board.{places, blankBoard, answer}
 use Rattle.board.specs.Report.{rowAt, reports}
-use Rattle.desktext.specs.Desk.{printed, answerLine, shownRows, answersText, refusedText, linesText, deskText}
+use Rattle.desktext.specs.Desk.{printed, answerLine, shownRows, answersText, refusedText, linesText, deskText, reportLines, deskBoard}
 use Rattle.desktext.specs.declared.Standing.{Standing}
 use Rattle.desktext.specs.declared.State.{State}
 use Rattle.desktext.specs.Pieces.{waiting, keeping, afterLine, lineAnswer, endAnswer, startState, begun, withoutReturn, afterByte, byteAnswer}
-use Rattle.desktext.specs.Pieces.{fedText, finishText, piecesText}
+use Rattle.desktext.specs.Pieces.{fedText, lastStanding, lastText, finishText, piecesText}
 use Rattle.desktext.specs.Laws.Pieces.{pieces-whole}
+use Rattle.desktext.specs.Laws.Line.{Opens}
 
 -- feeding any list of pieces and then the end prints what the desk prints for all of them as one input
 pub pieces : (ps : List (List ℕ)) → piecesText startState ps ≡ deskText (flatten ps)
@@ -44,6 +45,17 @@ pub desk-prints : (m l : List ℕ) (ls : List (List ℕ)) (b : Board) (rs : List
     → deskText m ≡ printed (bytes "OPEN") ++ (answerLines b ls ++ shownRows places (reports b rs))
 unfolding deskText
 desk-prints m l ls b rs e o t = rw (e, o, answers-shown b ls, lines-report b t)
+
+-- and keeps that board
+pub desk-keeps : (m l : List ℕ) (ls : List (List ℕ)) (b : Board) (rs : List Row) → lines m ≡ l ∷ ls → openingLine l ≡ answer 0 b → RowsTold ls rs
+    → deskBoard m ≡ reports b rs
+unfolding deskBoard
+desk-keeps m l ls b rs e o t = rw (e, o) (lines-report b t)
+
+-- where the first line opens none it keeps the blank one
+pub keeps-none : (m l : List ℕ) (ls : List (List ℕ)) → lines m ≡ l ∷ ls → ((b : Board) → Opens l b → ⊥) → deskBoard m ≡ blankBoard
+unfolding deskBoard
+keeps-none m l ls e none = rw (e, no-opening l none)
 
 -- no more lines than bytes
 lines-few : (m : List ℕ) → length (lines m) ≤ length m
@@ -122,12 +134,12 @@ end-most d = go (eqb (d .phase) waiting) (eqb (d .phase) keeping)
 
 -- and the end by a last line's answer and eight rows
 pub finish-size : (s : State) → length (finishText s) ≤ 1195
-unfolding finishText
-finish-size s = go (eqb (s .count) 0)
+unfolding finishText lastText
+finish-size s = rw length-append (omega (arith, go (eqb (s .count) 0), end-most (lastStanding s)))
   where
-    go : (t : Bool) → length (cond t (endAnswer (s .standing)) (lineAnswer (s .standing) (begun s) ++ endAnswer (afterLine (s .standing) (begun s)))) ≤ 1195
-    go true = let h = end-most (s .standing) in omega arith
-    go false = rw length-append (omega (arith, line-most (s .standing) (begun s), end-most (afterLine (s .standing) (begun s))))
+    go : (t : Bool) → length (cond t [] (lineAnswer (s .standing) (begun s))) ≤ 11
+    go true = omega arith
+    go false = line-most (s .standing) (begun s)
 
 -- and both are told, so that a caller with room for them gets them whole
 pub fed-told : (m : List ℕ) (s : State) {b x : List ℕ} {r : ℕ} → 11 * length m ≤ 65536 → Put 0 (fedText s m) b x r → r ≤ 11 * length m

@@ -4,9 +4,9 @@ ghost use mathlib.Core.Path.{_≡_};
 ghost use Rattle.text.specs.Put.{Put};
 ghost use Rattle.board.specs.Report.{rowAt};
 ghost use Rattle.desktext.specs.Line.{shownText, readSpaced, readRunways, listAnswer, openingLine, reportLine};
-ghost use Rattle.desktext.specs.Desk.{answerLine, shownRows, refusedText, deskText};
+ghost use Rattle.desktext.specs.Desk.{answerLine, shownRows, refusedText, deskText, deskBoard};
 ghost use Rattle.desktext.specs.Pieces.{keeping, standing, openedStanding, openedLine, afterLine, lineAnswer, endAnswer};
-ghost use Rattle.desktext.specs.Pieces.{startState, withoutReturn, fedState, fedText, finishText};
+ghost use Rattle.desktext.specs.Pieces.{startState, withoutReturn, fedState, fedText, lastStanding, lastText, finishText};
 ghost use lib.ListN.{length, take, drop, getD};
 ghost use Rattle.text.specs.Read.{misfit, whole};
 ghost use Rattle.runway.specs.Code.Held.{HeldRunway};
@@ -39,6 +39,7 @@ use text::refusal;
 // ---- The desk's lines
 
 // Runways in their array, zeros past the count; none where the text does not fit.
+#[repr(C)]
 pub struct RunwayList {
     pub count: u8,
     pub runways: [Runway; 8],
@@ -388,27 +389,52 @@ pub fn feed(s: State, piece: &[u8], out: &mut [u8], at: usize) -> Fed
     }
 }
 
-// The end of the input: puts the answer to a last line that lacks its end, and the rows shown; answers the place behind them.
-pub fn finish(s: State, out: &mut [u8], at: usize) -> usize
-    ensures { λ r. ⌜ Put at (finishText s) (now (out .entry)) (now (out .exit)) r ⌝ }
+// A last line that lacks its end.
+fn take_last(s: State, out: &mut [u8], at: usize) -> Turn
+    ensures { λ r. ⌜ r .standing ≡ lastStanding s ⌝ }
+    ensures { λ r. ⌜ Put at (lastText s) (now (out .entry)) (now (out .exit)) (r .behind) ⌝ }
 {
     let d = s.standing;
     let count = s.count;
     if count == 0 {
-        return put_end(out, at, d);
+        let behind = told_behind(out, at, 0);
+        return Turn {
+            standing: d,
+            behind,
+        };
     }
     let held = s.held;
     let n = place(&held, count);
-    let turn = take_line(d, &held[..n], out, at);
-    let after = turn.standing;
-    put_end(out, turn.behind, after)
+    take_line(d, &held[..n], out, at)
 }
 
-// What the desk prints for a whole input, put as far as the buffer goes; answers how many bytes it has.
+// The end of the input: puts the answer to a last line that lacks its end, and the rows shown; answers the place behind them.
+pub fn finish(s: State, out: &mut [u8], at: usize) -> usize
+    ensures { λ r. ⌜ Put at (finishText s) (now (out .entry)) (now (out .exit)) r ⌝ }
+{
+    let turn = take_last(s, out, at);
+    let d = turn.standing;
+    put_end(out, turn.behind, d)
+}
+
+// What the desk prints for a whole input, put as far as the buffer goes; answers how many bytes it has, told up to 65,536 past the buffer's end.
 pub fn desk(input: &[u8], out: &mut [u8]) -> usize
     ensures { λ r. ⌜ Put 0 (deskText (now (input .entry))) (now (out .entry)) (now (out .exit)) r ⌝ }
 {
     let fed = feed(start(), input, out, 0);
     let state = fed.state;
     finish(state, out, fed.behind)
+}
+
+// The board that the desk keeps after a whole input; blank where none is opened.
+pub fn desk_board(input: &[u8]) -> Board
+    ensures { λ b. ⌜ b ≡ deskBoard (now (input .entry)) ⌝ }
+{
+    // what is printed meanwhile is not wanted
+    let mut out = [0; 1];
+    let fed = feed(start(), input, &mut out, 0);
+    let state = fed.state;
+    let turn = take_last(state, &mut out, 0);
+    let standing = turn.standing;
+    standing.board
 }

@@ -31,6 +31,7 @@ use text::NONE;
 use text::Span;
 
 // Line 1. Zeros stand past the last address.
+#[repr(C)]
 pub struct Addresses {
     // 1 GG, 2 DD
     pub priority: u8,
@@ -40,6 +41,7 @@ pub struct Addresses {
 }
 
 // Line 2.
+#[repr(C)]
 pub struct Filing {
     // ddhhmm as a number
     pub time: u32,
@@ -47,6 +49,7 @@ pub struct Filing {
 }
 
 // Line 3 without its time, which a record works out from its rows.
+#[repr(C)]
 pub struct Title {
     pub region: [u8; 2],
     pub serial: u16,

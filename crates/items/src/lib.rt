@@ -27,6 +27,7 @@ use scan::same_bytes;
 use scan::zeros_from;
 
 // An awareness item, zeros in every field that its letter does not use.
+#[repr(C)]
 pub struct Item {
     // I: the length; M: the distance
     pub amount: u16,
@@ -46,12 +47,14 @@ pub struct Item {
 }
 
 // Up to 32 items, zeros past the count.
+#[repr(C)]
 pub struct Items {
     pub count: u8,
     pub items: [Item; 32],
 }
 
 // Up to 400 bytes of plain language, zeros past the length.
+#[repr(C)]
 pub struct Language {
     pub length: u16,
     pub bytes: [u8; 400],

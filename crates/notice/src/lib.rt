@@ -33,6 +33,7 @@ use text::place;
 use text::refusal;
 
 // A refusal number, 0 for written, and how many bytes were filled.
+#[repr(C)]
 pub struct Written {
     pub refusal: u8,
     pub length: usize,

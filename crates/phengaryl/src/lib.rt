@@ -1,38 +1,86 @@
-// The C interface: functions on numbers and byte buffers, with the promises of the crates below. include/phengaryl.h says it in C.
+// The C interface: the library's own functions under the names of include/phengaryl.h, each with its promise. Nothing here relies on a caller.
 
 ghost use mathlib.Core.Path.{_≡_};
-ghost use mathlib.Core.List.{map};
-ghost use Prim.Native.Nat.{_+_, _<_};
 ghost use Rattle.text.specs.Put.{Put};
 ghost use Rattle.surface.specs.Assess.{assessing};
 ghost use Rattle.row.specs.Agreement.{agreement};
+ghost use Rattle.rowtext.specs.Reading.{wholeRow, rowAnswer};
+ghost use Rattle.rowtext.specs.Writing.{rowText, WroteRow};
 ghost use Rattle.notice.specs.Reading.{reading};
+ghost use Rattle.notice.specs.Writing.{Wrote};
 ghost use Rattle.notice.specs.Rewriting.{Rewrote};
 ghost use Rattle.notice.specs.Same.{SaysSame};
-ghost use Rattle.desktext.specs.Desk.{deskText};
 ghost use Rattle.listing.specs.Listing.{listing};
-ghost use Rattle.phengaryl.specs.Numbers.{observed, numbersOf, thirdAt, thirdsOf, rowOf};
-ghost use Rattle.phengaryl.specs.Code.Narrow.{narrow, narrowThird};
+ghost use Rattle.board.specs.Board.{opening, validBoard};
+ghost use Rattle.board.specs.Report.{report};
+ghost use Rattle.desktext.specs.Desk.{deskText};
+ghost use Rattle.boardnotice.specs.Writing.{WroteBoard};
+ghost use Rattle.boardnotice.specs.DeskNotice.{WroteDeskNotice};
+use board::Answer;
+use board::Board;
+use board::open;
+use board::report;
+use board::valid_board;
+use boardnotice::Details;
+use boardnotice::board_notice;
+use boardnotice::write_board;
+use desktext::RunwayList;
 use desktext::desk;
+use items::Items;
+use items::Language;
 use listing::list;
+use notice::Written;
 use notice::read;
 use notice::rewrite;
 use notice::same;
+use notice::write;
+use record::Reading;
+use record::Record;
+use row::Agreement;
 use row::Row;
 use row::disagreeing;
+use rowtext::RowRead;
+use rowtext::read_row;
+use rowtext::write_row;
+use surface::Assessment;
 use surface::Observation;
-use surface::Third;
 use surface::assess;
 
-// The refusal number of a message, 0 for accepted.
+// ---- Messages and records
+
+// The record of a message, or why it is refused.
 #[no_mangle]
-pub extern "C" fn phengaryl_read(message: &[u8]) -> u8
-    ensures { λ r. ⌜ r ≡ reading (now (message .entry)) .refusal ⌝ }
+pub extern "C" fn phengaryl_read(message: &[u8]) -> Reading
+    ensures { λ r. ⌜ r ≡ reading (now (message .entry)) ⌝ }
 {
-    read(message).refusal
+    read(message)
 }
 
-// Puts what the lister prints of a message as far as the buffer goes, and answers how many bytes it has.
+// A record as a message, in canonical form.
+#[no_mangle]
+pub extern "C" fn phengaryl_write(record: Record, out: &mut [u8]) -> Written
+    ensures { λ w. ⌜ Wrote «record» (now (out .entry)) (now (out .exit)) w ⌝ }
+{
+    write(record, out)
+}
+
+// A message anew, in canonical form.
+#[no_mangle]
+pub extern "C" fn phengaryl_rewrite(message: &[u8], out: &mut [u8]) -> Written
+    ensures { λ w. ⌜ Rewrote (now (message .entry)) (now (out .entry)) (now (out .exit)) w ⌝ }
+{
+    rewrite(message, out)
+}
+
+// Whether two messages are accepted and tell the same.
+#[no_mangle]
+pub extern "C" fn phengaryl_same(one: &[u8], other: &[u8]) -> bool
+    ensures { λ r. ⌜ SaysSame (now (one .entry)) (now (other .entry)) r ⌝ }
+{
+    same(one, other)
+}
+
+// What the lister prints of a message, put as far as the buffer goes; answers how many bytes it has.
 #[no_mangle]
 pub extern "C" fn phengaryl_list(message: &[u8], out: &mut [u8]) -> usize
     ensures { λ r. ⌜ Put 0 (listing (now (message .entry))) (now (out .entry)) (now (out .exit)) r ⌝ }
@@ -40,113 +88,102 @@ pub extern "C" fn phengaryl_list(message: &[u8], out: &mut [u8]) -> usize
     list(message, out)
 }
 
-// Writes a message anew, in canonical form; answers the refusal number, and through `length` how many bytes were filled.
+// ---- Observations and rows
+
+// The third that is reported of an observation, or why it is refused.
 #[no_mangle]
-pub extern "C" fn phengaryl_canonical(message: &[u8], out: &mut [u8], length: &mut usize) -> u8
-    ensures { λ r. ⌜ Rewrote (now (message .entry)) (now (out .entry)) (now (out .exit)) (record { refusal = r; length = now (length .exit) }) ⌝ }
+pub extern "C" fn phengaryl_assess(observation: Observation) -> Assessment
+    ensures { λ r. ⌜ r ≡ assessing observation ⌝ }
 {
-    let written = rewrite(message, out);
-    *length = written.length;
-    written.refusal
+    assess(observation)
 }
 
-// Whether two messages are accepted and tell the same.
+// How many thirds of a row have a code that Table 1 does not allow, or 19.
 #[no_mangle]
-pub extern "C" fn phengaryl_same(a: &[u8], b: &[u8]) -> bool
-    ensures { λ r. ⌜ SaysSame (now (a .entry)) (now (b .entry)) r ⌝ }
+pub extern "C" fn phengaryl_disagreeing(row: Row) -> Agreement
+    ensures { λ r. ⌜ r ≡ agreement row ⌝ }
 {
-    same(a, b)
+    disagreeing(row)
 }
 
-// The third that is reported of an observation: code, coverage, depth, description; the refusal number is answered.
+// The row of a text, or 5.
 #[no_mangle]
-pub extern "C" fn phengaryl_assess(
-    kind: u8,
-    cover: u8,
-    depth: u16,
-    temperature: i32,
-    slippery: bool,
-    third: &mut [u16; 4],
-) -> u8
-    ensures { λ r. ⌜ (r ≡ assessing (observed kind cover depth temperature slippery) .refusal) × (now (third .exit) ≡ numbersOf (assessing (observed kind cover depth temperature slippery) .third)) ⌝ }
+pub extern "C" fn phengaryl_read_row(text: &[u8]) -> RowRead
+    ensures { λ r. ⌜ r ≡ rowAnswer (wholeRow (now (text .entry))) ⌝ }
 {
-    let a = assess(Observation {
-        kind,
-        cover,
-        depth,
-        temperature,
-        slippery,
-    });
-    let t = a.third;
-    *third = [
-        t.code as u16,
-        t.coverage as u16,
-        t.depth,
-        t.description as u16,
-    ];
-    a.refusal
+    read_row(text)
 }
 
-// 255 stands for every number past it: no rule takes it.
-fn narrow(x: u16) -> u8
-    ensures { λ r. ⌜ r ≡ narrow x ⌝ }
-{
-    if x <= 255 { x as u8 } else { 255 }
-}
-
-// The third whose four numbers stand from `at` on.
-fn third_at(numbers: &[u16; 12], at: usize) -> Third
-    requires { ⌜ at + 3 < 12 ⌝ }
-    ensures { λ t. ⌜ t ≡ narrowThird (thirdAt (now (numbers .entry)) at) ⌝ }
-{
-    let code = narrow(numbers[at]);
-    let coverage = narrow(numbers[at + 1]);
-    let description = narrow(numbers[at + 3]);
-    Third {
-        code,
-        coverage,
-        depth: numbers[at + 2],
-        description,
-    }
-}
-
-fn row_of(time: u32, number: u8, side: u8, thirds: &[u16; 12], width: u8) -> Row
-    ensures { λ r. ⌜ r ≡ rowOf time number side (map narrowThird (thirdsOf (now (thirds .entry)))) width ⌝ }
-{
-    let first = third_at(thirds, 0);
-    let middle = third_at(thirds, 4);
-    let last = third_at(thirds, 8);
-    Row {
-        time,
-        number,
-        side,
-        thirds: [first, middle, last],
-        width,
-    }
-}
-
-// How many thirds of a row have a code that Table 1 does not allow; 0, or 19 where the row is not valid, is answered.
+// A row's text, if it is valid and there is room; answers how many bytes were filled.
 #[no_mangle]
-pub extern "C" fn phengaryl_agreement(
-    time: u32,
-    number: u8,
-    side: u8,
-    thirds: &[u16; 12],
-    width: u8,
-    count: &mut u8,
-) -> u8
-    ensures { λ r. ⌜ (r ≡ agreement (rowOf time number side (thirdsOf (now (thirds .entry))) width) .refusal) × (now (count .exit) ≡ agreement (rowOf time number side (thirdsOf (now (thirds .entry))) width) .count) ⌝ }
+pub extern "C" fn phengaryl_write_row(row: Row, out: &mut [u8]) -> usize
+    ensures { λ n. ⌜ WroteRow (rowText row) (now (out .entry)) (now (out .exit)) n ⌝ }
 {
-    let row = row_of(time, number, side, thirds, width);
-    let a = disagreeing(row);
-    *count = a.count;
-    a.refusal
+    write_row(out, row)
 }
 
-// What the desk prints for a whole input, put as far as the buffer goes; answers how many bytes it has.
+// ---- The board
+
+// A board for the runways of an aerodrome, or 17. C hands over no array, so the aerodrome is lent and the list is a struct.
+#[no_mangle]
+pub extern "C" fn phengaryl_open(aerodrome: &[u8; 4], list: RunwayList) -> Answer
+    ensures { λ a. ⌜ a ≡ opening (now (aerodrome .entry)) (list .count) (list .runways) ⌝ }
+{
+    let runways = list.runways;
+    open(*aerodrome, list.count, runways)
+}
+
+// The board after a report.
+#[no_mangle]
+pub extern "C" fn phengaryl_report(board: Board, row: Row) -> Answer
+    ensures { λ a. ⌜ a ≡ report board row ⌝ }
+{
+    report(board, row)
+}
+
+// Whether a board keeps its rules.
+#[no_mangle]
+pub extern "C" fn phengaryl_valid_board(board: Board) -> bool
+    ensures { λ r. ⌜ r ≡ validBoard board ⌝ }
+{
+    valid_board(board)
+}
+
+// The notice of a board.
+#[no_mangle]
+pub extern "C" fn phengaryl_write_board(
+    board: Board,
+    details: Details,
+    items: Items,
+    language: Language,
+    out: &mut [u8],
+) -> Written
+    ensures { λ w. ⌜ WroteBoard board details items language (now (out .entry)) (now (out .exit)) w ⌝ }
+{
+    write_board(board, details, items, language, out)
+}
+
+// ---- The desk's text
+
+// What the desk prints for a whole input, put as far as the buffer goes; answers how many bytes it has, told up to 65,536 past the buffer's end.
 #[no_mangle]
 pub extern "C" fn phengaryl_desk(input: &[u8], out: &mut [u8]) -> usize
     ensures { λ r. ⌜ Put 0 (deskText (now (input .entry))) (now (out .entry)) (now (out .exit)) r ⌝ }
 {
     desk(input, out)
+}
+
+// The notice of the board after a desk's input, with the details of a model; answers the refusal, and through `filled` how many bytes were filled.
+#[no_mangle]
+pub extern "C" fn phengaryl_board_notice(
+    desk: &[u8],
+    model: &[u8],
+    out: &mut [u8],
+    filled: &mut usize,
+) -> u8
+    ensures { λ r. ⌜ WroteDeskNotice (now (desk .entry)) (now (model .entry)) (now (out .entry)) (now (out .exit)) (record { refusal = r; length = now (filled .exit) }) ⌝ }
+{
+    let written = board_notice(desk, model, out);
+    *filled = written.length;
+    written.refusal
 }

@@ -35,6 +35,7 @@ use scan::same_bytes;
 use text::refusal;
 
 // What a message says, part by part; the heading time is the latest row time and is not stored.
+#[repr(C)]
 pub struct Record {
     pub addresses: Addresses,
     pub filing: Filing,
@@ -45,6 +46,7 @@ pub struct Record {
 }
 
 // A refusal number, 0 for accepted, and the record: blank where it is refused.
+#[repr(C)]
 pub struct Reading {
     pub refusal: u8,
     pub record: Record,

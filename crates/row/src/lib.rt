@@ -18,6 +18,7 @@ use surface::valid_third;
 use text::refusal;
 
 // In every field 0 stands for NR and for what is missing.
+#[repr(C)]
 pub struct Row {
     // MMDDhhmm as a number
     pub time: u32,
@@ -162,6 +163,7 @@ pub fn is_short(r: Row) -> bool
 
 // ---- Agreement with Table 1
 
+#[repr(C)]
 pub struct Agreement {
     // 0 for a row that is judged, else 19
     pub refusal: u8,

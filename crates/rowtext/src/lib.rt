@@ -229,6 +229,7 @@ fn ending(line: &[u8], at: usize) -> u8
     if line.len() <= at { 0 } else { refusal::NO_ROW }
 }
 
+#[repr(C)]
 pub struct RowRead {
     // 0 for a row that is taken, else 5
     pub refusal: u8,

@@ -3,6 +3,7 @@
 ghost use mathlib.Core.Path.{_≡_};
 ghost use Prim.Native.Nat.{_+_, _<_};
 ghost use mathlib.Core.List.{_∷_};
+ghost use mathlib.Core.Bool.{true};
 ghost use lib.ListN.{length, drop};
 ghost use Rattle.surface.specs.Descriptions.{isContaminant, isDeep};
 ghost use Rattle.surface.specs.Third.{isBlankThird, isCoverage, validCoverage, leastDepth, isReported, validDepth, validThird};
@@ -28,6 +29,7 @@ use text::refusal;
 
 pub mod description;
 
+#[repr(C)]
 pub struct Third {
     pub code: u8,
     // 25, 50, 75, 100
@@ -37,17 +39,19 @@ pub struct Third {
     pub description: u8,
 }
 
+#[repr(C)]
 pub struct Observation {
-    pub kind: u8,
+    pub kind: u32,
     // per cent
-    pub cover: u8,
+    pub cover: u32,
     // millimetres
-    pub depth: u16,
+    pub depth: u32,
     // tenths of a degree Celsius
     pub temperature: i32,
     pub slippery: bool,
 }
 
+#[repr(C)]
 pub struct Assessment {
     // 0 for an observation that is taken
     pub refusal: u8,
@@ -65,19 +69,19 @@ fn is_contaminant(description: u8) -> bool
     description <= WET_SNOW_ON_ICE
 }
 
-fn is_deep(description: u8) -> bool
-    ensures { λ r. ⌜ r ≡ isDeep description ⌝ }
+fn is_deep(kind: u32) -> bool
+    ensures { λ r. ⌜ r ≡ isDeep kind ⌝ }
 {
-    if STANDING_WATER == description {
+    if STANDING_WATER as u32 == kind {
         return true;
     }
-    if SLUSH == description {
+    if SLUSH as u32 == kind {
         return true;
     }
-    if WET_SNOW == description {
+    if WET_SNOW as u32 == kind {
         return true;
     }
-    DRY_SNOW == description
+    DRY_SNOW as u32 == kind
 }
 
 fn is_coverage(coverage: u8) -> bool
@@ -118,13 +122,13 @@ fn least_depth(description: u8) -> u16
 fn is_reported(description: u8, depth: u16) -> bool
     ensures { λ r. ⌜ r ≡ isReported description depth ⌝ }
 {
-    if is_deep(description) {
+    if is_deep(description as u32) {
         return least_depth(description) <= depth;
     }
     false
 }
 
-const GREATEST_DEPTH: u16 = 999;
+const GREATEST_DEPTH: u32 = 999;
 
 fn valid_depth(t: Third) -> bool
     ensures { λ r. ⌜ r ≡ validDepth t ⌝ }
@@ -133,7 +137,7 @@ fn valid_depth(t: Third) -> bool
         return true;
     }
     if is_reported(t.description, t.depth) {
-        return t.depth <= GREATEST_DEPTH;
+        return t.depth as u32 <= GREATEST_DEPTH;
     }
     false
 }
@@ -222,7 +226,7 @@ fn line_at(i: usize) -> Entry
     TABLE_1[i]
 }
 
-fn is_shallow(depth: u16) -> bool
+fn is_shallow(depth: u32) -> bool
     ensures { λ r. ⌜ r ≡ isShallow depth ⌝ }
 {
     depth <= 3
@@ -275,7 +279,7 @@ fn code_for(kind: u8, o: Observation) -> u8
 }
 
 // The condition can hold of a surface of which only the reported depth is known.
-fn can_hold(c: Condition, depth: u16) -> bool
+fn can_hold(c: Condition, depth: u32) -> bool
     ensures { λ r. ⌜ r ≡ canHold c depth ⌝ }
 {
     match c {
@@ -299,7 +303,7 @@ fn allows(l: Entry, t: Third) -> bool
         return false;
     }
     let condition = l.2;
-    can_hold(condition, t.depth)
+    can_hold(condition, t.depth as u32)
 }
 
 fn is_allowed(t: Third) -> bool
@@ -328,13 +332,13 @@ pub fn agrees(t: Third) -> bool
 
 // ---- Assessing
 
-fn is_kind(kind: u8) -> bool
+fn is_kind(kind: u32) -> bool
     ensures { λ r. ⌜ r ≡ isKind kind ⌝ }
 {
-    if kind < COMPACTED_SNOW {
+    if kind < COMPACTED_SNOW as u32 {
         return false;
     }
-    kind <= DRY
+    kind <= DRY as u32
 }
 
 fn is_temperature(temperature: i32) -> bool
@@ -364,7 +368,7 @@ fn in_range(o: Observation) -> bool
 fn covered_dry(o: Observation) -> bool
     ensures { λ r. ⌜ r ≡ coveredDry o ⌝ }
 {
-    if o.kind == DRY {
+    if o.kind == DRY as u32 {
         return 0 < o.cover;
     }
     false
@@ -373,7 +377,7 @@ fn covered_dry(o: Observation) -> bool
 fn deep_wet(o: Observation) -> bool
     ensures { λ r. ⌜ r ≡ deepWet o ⌝ }
 {
-    if o.kind == WET {
+    if o.kind == WET as u32 {
         return !is_shallow(o.depth);
     }
     false
@@ -382,7 +386,7 @@ fn deep_wet(o: Observation) -> bool
 fn deep_other(o: Observation) -> bool
     ensures { λ r. ⌜ r ≡ deepOther o ⌝ }
 {
-    if o.kind == WET {
+    if o.kind == WET as u32 {
         return false;
     }
     if is_deep(o.kind) {
@@ -394,7 +398,7 @@ fn deep_other(o: Observation) -> bool
 fn slippery_other(o: Observation) -> bool
     ensures { λ r. ⌜ r ≡ slipperyOther o ⌝ }
 {
-    if o.kind == WET {
+    if o.kind == WET as u32 {
         return false;
     }
     o.slippery
@@ -415,7 +419,7 @@ fn contradictory(o: Observation) -> bool
     slippery_other(o)
 }
 
-fn coverage_for(cover: u8) -> u8
+fn coverage_for(cover: u32) -> u8
     ensures { λ r. ⌜ r ≡ coverageFor cover ⌝ }
 {
     if cover <= 25 {
@@ -431,10 +435,10 @@ fn coverage_for(cover: u8) -> u8
 }
 
 // Too little cover to report: only that the surface is dry, if it is.
-fn uncovered(kind: u8) -> Third
+fn uncovered(kind: u32) -> Third
     ensures { λ r. ⌜ r ≡ uncovered kind ⌝ }
 {
-    if kind == DRY {
+    if kind == DRY as u32 {
         return Third {
             code: 6,
             coverage: NR,
@@ -453,7 +457,7 @@ fn uncovered(kind: u8) -> Third
 fn is_thin_water(o: Observation) -> bool
     ensures { λ r. ⌜ r ≡ isThinWater o ⌝ }
 {
-    if o.kind == STANDING_WATER {
+    if o.kind == STANDING_WATER as u32 {
         return is_shallow(o.depth);
     }
     false
@@ -461,9 +465,10 @@ fn is_thin_water(o: Observation) -> bool
 
 // Standing water that is no deeper than 3 mm is reported as WET.
 fn reported_kind(o: Observation) -> u8
+    requires { ⌜ inRange o ≡ true ⌝ }
     ensures { λ r. ⌜ r ≡ reportedKind o ⌝ }
 {
-    if is_thin_water(o) { WET } else { o.kind }
+    if is_thin_water(o) { WET } else { o.kind as u8 }
 }
 
 fn reported_depth(kind: u8, depth: u16) -> u16
@@ -473,19 +478,21 @@ fn reported_depth(kind: u8, depth: u16) -> u16
 }
 
 fn covered(kind: u8, o: Observation) -> Third
+    requires { ⌜ inRange o ≡ true ⌝ }
     ensures { λ r. ⌜ r ≡ covered kind o ⌝ }
 {
     Third {
         code: code_for(kind, o),
         coverage: coverage_for(o.cover),
-        depth: reported_depth(kind, o.depth),
+        depth: reported_depth(kind, o.depth as u16),
         description: kind,
     }
 }
 
-const LEAST_COVER: u8 = 10;
+const LEAST_COVER: u32 = 10;
 
 fn assessed(o: Observation) -> Third
+    requires { ⌜ inRange o ≡ true ⌝ }
     ensures { λ r. ⌜ r ≡ assessed o ⌝ }
 {
     if o.cover < LEAST_COVER {

@@ -13,13 +13,13 @@ use surface::description::SLUSH;
 use surface::valid_third;
 
 // Four digits and a space.
-fn print_number(n: u16) {
-    print_digits(4, n as u32);
+fn print_number(n: u32) {
+    print_digits(4, n);
     print(b" ");
 }
 
 fn print_byte(n: u8) {
-    print_number(n as u16);
+    print_number(n as u32);
 }
 
 fn print_bool(b: bool) {
@@ -33,15 +33,15 @@ fn print_bool(b: bool) {
 fn print_third(t: Third) {
     print_byte(t.code);
     print_byte(t.coverage);
-    print_number(t.depth);
+    print_number(t.depth as u32);
     print_byte(t.description);
     print_bool(valid_third(t));
     print_bool(agrees(t));
 }
 
 fn show(o: Observation) {
-    print_byte(o.kind);
-    print_byte(o.cover);
+    print_number(o.kind);
+    print_number(o.cover);
     print_number(o.depth);
     print_bool(o.slippery);
     let a = assess(o);
@@ -50,7 +50,7 @@ fn show(o: Observation) {
     print(b"\n");
 }
 
-fn at_depth(kind: u8, depth: u16, slippery: bool) {
+fn at_depth(kind: u32, depth: u32, slippery: bool) {
     show(Observation {
         kind,
         cover: 100,
@@ -60,7 +60,7 @@ fn at_depth(kind: u8, depth: u16, slippery: bool) {
     });
 }
 
-fn at_cover(kind: u8, cover: u8) {
+fn at_cover(kind: u32, cover: u32) {
     show(Observation {
         kind,
         cover,
@@ -72,7 +72,7 @@ fn at_cover(kind: u8, cover: u8) {
 
 fn at_temperature(temperature: i32) {
     show(Observation {
-        kind: COMPACTED_SNOW,
+        kind: COMPACTED_SNOW as u32,
         cover: 100,
         depth: 0,
         temperature,
@@ -82,7 +82,7 @@ fn at_temperature(temperature: i32) {
 
 // Every kind, and a number below and above them.
 fn kinds() {
-    let mut kind: u8 = 0;
+    let mut kind: u32 = 0;
     while kind <= 16 {
         at_depth(kind, 0, false);
         at_depth(kind, 2, false);
@@ -94,20 +94,20 @@ fn kinds() {
 }
 
 fn covers() {
-    let mut cover: u8 = 0;
+    let mut cover: u32 = 0;
     while cover <= 102 {
-        at_cover(FROST, cover);
+        at_cover(FROST as u32, cover);
         cover += 1;
     }
-    at_cover(DRY, 0);
-    at_cover(DRY, 1);
+    at_cover(DRY as u32, 0);
+    at_cover(DRY as u32, 1);
 }
 
 pub fn print_observations() {
     kinds();
     covers();
-    at_depth(SLUSH, 999, false);
-    at_depth(SLUSH, 1000, false);
+    at_depth(SLUSH as u32, 999, false);
+    at_depth(SLUSH as u32, 1000, false);
     at_temperature(-601);
     at_temperature(-600);
     at_temperature(-150);

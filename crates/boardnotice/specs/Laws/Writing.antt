@@ -23,6 +23,7 @@ use Rattle.boardnotice.specs.declared.Details.{Details}
 use Rattle.board.specs.Board.{blankRunway, comesBefore, rises, rising, isAerodrome, validList, names, fitsPlace, fitPlaces, runwaysOf, validBoard}
 use Rattle.board.specs.Shows.{ReportFor}
 use Rattle.boardnotice.specs.Writing.{reported, boardRecord, writingBoard}
+use Rattle.boardnotice.specs.DeskNotice.{detailsOf}
 use Rattle.board.specs.Laws.Rules.{before-trans, before-apart, rules}
 
 -- a place holds zeros, or a valid row of its runway
@@ -107,10 +108,6 @@ few-reported (r ∷ rs) = go (isBlankRow r) (few-reported rs)
     go : (t : Bool) → length (reported rs) ≤ length rs → length (cond t (reported rs) (r ∷ reported rs)) ≤ suc (length rs)
     go true h = omega arith
     go false h = omega arith
-
--- what a record's heading says besides the aerodrome and the time
-abbrev pub detailsOf : Record → Details
-detailsOf r = record { addresses = r .addresses; filing = r .filing; region = r .title .region; serial = r .title .serial }
 
 module _ (b : Board) (v : validBoard b ≡ true) (some : isEmpty (reported (b .rows)) ≡ false) where
   -- the rows of a board that shows one are valid, at most eight, and no runway twice

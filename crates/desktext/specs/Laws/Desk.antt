@@ -20,6 +20,7 @@ use Rattle.board.specs.declared.Board.{Board}
 use Rattle.board.specs.Board.{validBoard, blankBoard, answer}
 use Rattle.board.specs.Report.{rowAt, report, reports}
 use Rattle.desktext.specs.Line.{openingLine, reportRead, reportLine, shownText}
+use Rattle.desktext.specs.Desk.{reportLines}
 use Rattle.board.specs.Shows.{nothing, row, shownAt}
 use Rattle.desktext.specs.Laws.Line.{Opens, line-sound, line-complete, line-refused, shown-row, shown-nothing, line-size}
 
@@ -62,12 +63,7 @@ lines-tell (l ∷ ls) = go (leb (length l) 4096) refl (wholeRow l) refl (lines-t
     go true e misfit q k = (k .0, other-line (λ r h t. no-misfit (sym q ∙ row-complete l r t)) (k .1))
     go true e (got r m) q k = (r ∷ k .0, row-line (leb-true (length l) 4096 e) (row-sound l q) (k .1))
 
--- the board after row lines, one by one
-unfoldable pub reportLines : Board → List (List ℕ) → Board
-reportLines b [] = b
-reportLines b (l ∷ ls) = reportLines (reportLine b l .board) ls
-
--- is the board after the rows that they tell
+-- the board after row lines is the board after the rows that they tell
 pub lines-report : {ls : List (List ℕ)} {rs : List Row} (b : Board) → RowsTold ls rs → reportLines b ls ≡ reports b rs
 unfolding reportLines reports
 lines-report b no-line = refl

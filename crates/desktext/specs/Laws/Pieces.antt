@@ -16,12 +16,13 @@ use Rattle.text.specs.Code.Held.{isUnfed}
 use Rattle.text.specs.Laws.Base.{and-1, and-2, and-i, true-false}
 use Rattle.text.specs.Laws.Lines.{all-append}
 use Rattle.board.specs.declared.Board.{Board}
+use Rattle.board.specs.Board.{blankBoard}
 use Rattle.desktext.specs.declared.Standing.{Standing}
 use Rattle.desktext.specs.declared.State.{State}
 use Rattle.desktext.specs.Line.{openingLine, reportLine}
-use Rattle.desktext.specs.Desk.{printed, answerLine, answersText, refusedText, linesText, deskText}
+use Rattle.desktext.specs.Desk.{printed, answerLine, answersText, refusedText, linesText, deskText, reportLines, linesBoard, deskBoard}
 use Rattle.desktext.specs.Pieces.{waiting, keeping, over, standing, openedStanding, openedLine, afterLine, lineAnswer, endAnswer, mostKept, startState}
-use Rattle.desktext.specs.Pieces.{begun, keptByte, withoutReturn, afterByte, byteAnswer, fedState, fedText, finishText, piecesText}
+use Rattle.desktext.specs.Pieces.{begun, keptByte, withoutReturn, afterByte, byteAnswer, fedState, fedText, lastStanding, lastText, finishText, piecesText}
 use Rattle.desktext.specs.Laws.Line.{opening-long, long-report}
 
 -- ---- Lines
@@ -174,7 +175,7 @@ run s [] = finishText s
 run s (x ∷ m) = byteAnswer s x ++ run (afterByte s x) m
 
 run-end : (s : State) (r : List ℕ) → Keeps s r → finishText s ≡ from (s .standing) (lines r)
-unfolding finishText lines
+unfolding finishText lastText lastStanding lines
 run-end s [] k = rw (k .many) (from-none (s .standing))
 run-end s (x ∷ r) k =
     let z : s .count ≡ suc (length (take 4097 r)) = k .many in
@@ -226,3 +227,62 @@ pieces-run s (p ∷ ps) = ap (λ l. fedText s p ++ l) (pieces-run (fedState s p)
 pub pieces-whole : (ps : List (List ℕ)) → piecesText startState ps ≡ deskText (flatten ps)
 unfolding deskText
 pieces-whole ps = pieces-run startState ps ∙ run-lines (flatten ps) startState [] (kept-none startState (length-replicate {A = ℕ} mostKept 0) refl)
+
+-- ---- The board
+
+-- where the desk stands after lines
+unfoldable afterLines : Standing → List (List ℕ) → Standing
+afterLines d [] = d
+afterLines d (l ∷ ls) = afterLines (afterLine d l) ls
+
+stands-end : (s : State) (r : List ℕ) → Keeps s r → lastStanding s ≡ afterLines (s .standing) (lines r)
+unfolding lastStanding afterLines lines
+stands-end s [] k = rw (k .many)
+stands-end s (x ∷ r) k =
+    let z : s .count ≡ suc (length (take 4097 r)) = k .many in
+    rw (ne-eqb (s .count) 0 (λ q. absurd (omega arith)), k .holds, kept-alike (x ∷ r) .0 .after (s .standing), lines-unfed x r (k .unfed))
+
+stands-lines : (m : List ℕ) (s : State) (r : List ℕ) → Keeps s r → lastStanding (fedState s m) ≡ afterLines (s .standing) (lines (r ++ m))
+unfolding fedState afterByte afterLines
+stands-lines [] s r k = rw (stands-end s r k, append-nil r)
+stands-lines (x ∷ m) s r k = go (eqb x 10) refl (stands-lines m)
+  where
+    fed : State
+    fed = record { standing = afterLine (s .standing) (withoutReturn (begun s)); held = s .held; count = 0 }
+
+    same : (t : Bool) → cond t (record { standing = s .standing; held = set (s .held) (s .count) x; count = s .count + 1 }) s .standing ≡ s .standing
+    same true = refl
+    same false = refl
+
+    go : (t : Bool) → eqb x 10 ≡ t
+        → ((u : State) (q : List ℕ) → Keeps u q → lastStanding (fedState u m) ≡ afterLines (u .standing) (lines (q ++ m)))
+        → lastStanding (fedState (cond t fed (keptByte s x)) m) ≡ afterLines (s .standing) (lines (r ++ (x ∷ m)))
+    go true e ih =
+        rw (ih fed [] (kept-none fed (k .room) refl), k .holds, kept-alike r .1 .after (s .standing), eqb-true x 10 e, lines-fed r m (k .unfed))
+    go false e ih =
+        rw (ih (keptByte s x) (r ++ (x ∷ [])) (kept-more s r x k e), append-assoc, same (ltb (s .count) mostKept))
+
+keeps-board : (b : Board) (ls : List (List ℕ)) → afterLines (standing keeping b) ls .board ≡ reportLines b ls
+unfolding afterLines afterLine reportLines
+keeps-board b [] = refl
+keeps-board b (l ∷ ls) = keeps-board (reportLine b l .board) ls
+
+over-board : (b : Board) (ls : List (List ℕ)) → afterLines (standing over b) ls .board ≡ b
+unfolding afterLines afterLine
+over-board b [] = refl
+over-board b (l ∷ ls) = over-board b ls
+
+opens-board : (ls : List (List ℕ)) → afterLines (standing waiting blankBoard) ls .board ≡ linesBoard ls
+unfolding afterLines afterLine
+opens-board [] = refl
+opens-board (l ∷ ls) = go (eqb (openingLine l .refusal) 0) (openingLine l .board)
+  where
+    go : (t : Bool) (b : Board) → afterLines (cond t (standing keeping b) (standing over b)) ls .board ≡ cond t (reportLines b ls) b
+    go true b = keeps-board b ls
+    go false b = over-board b ls
+
+-- the board after all bytes of an input is the board after its lines
+pub whole-board : (m : List ℕ) → lastStanding (fedState startState m) .board ≡ deskBoard m
+unfolding deskBoard
+whole-board m =
+    ap (λ d. d .board) (stands-lines m startState [] (kept-none startState (length-replicate {A = ℕ} mostKept 0) refl)) ∙ opens-board (lines m)

@@ -16,7 +16,9 @@ unfolding assessing
 returns c = rw (sym (c .before .before .before .in-range .ensures) ∙ c .before .before .if1 .taken, sym (c .before .contradictory .ensures) ∙ c .if2 .taken)
 
 assessed-requires : tie.Need-assessed-requires
-assessed-requires c κs = search needs
+assessed-requires c κs =
+    let c₁ = c .before .before in
+    sym (c₁ .before .in-range .ensures) ∙ c₁ .if1 .taken
 
 returns-2 : tie.Need-returns-2
 unfolding assessing

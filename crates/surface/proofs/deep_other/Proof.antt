@@ -4,6 +4,9 @@ use borrow.Author.Needs.{needs}
 use Rattle.surface.proofs.deep_other.Statement.{statement}
 use Rattle.surface.proofs.deep_other.Tie as tie
 
+cast-if1 : tie.Need-cast-if1
+cast-if1 c = search needs
+
 returns : tie.Need-returns
 unfolding deepOther
 returns c = search tests
@@ -20,4 +23,4 @@ unfolding deepOther
 returns-3 c = search tests
 
 pub deep-other-spec : {M : Type 1} → statement M
-deep-other-spec = tie.close (tie.spec returns is-deep-requires returns-2 returns-3)
+deep-other-spec = tie.close (tie.spec cast-if1 returns is-deep-requires returns-2 returns-3)

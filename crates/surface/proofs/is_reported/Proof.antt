@@ -12,11 +12,11 @@ least-depth-requires c κs = search needs
 
 returns : tie.Need-returns
 unfolding isReported
-returns c = simp (← (c .least-depth .ensures)) (search tests)
+returns c = simp (← (c .before .before .is-deep .ensures), ← (c .least-depth .ensures)) (search tests)
 
 returns-2 : tie.Need-returns-2
 unfolding isReported
-returns-2 c = search tests
+returns-2 c = simp (← (c .before .is-deep .ensures)) (search tests)
 
 pub is-reported-spec : {M : Type 1} → statement M
 is-reported-spec = tie.close (tie.spec is-deep-requires least-depth-requires returns returns-2)

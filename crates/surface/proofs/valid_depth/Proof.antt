@@ -12,13 +12,17 @@ returns c = search tests
 is-reported-requires : tie.Need-is-reported-requires
 is-reported-requires c κs = search needs
 
+cast-result : tie.Need-cast-result
+cast-result c = search needs
+
 returns-2 : tie.Need-returns-2
 unfolding validDepth
-returns-2 c = rw (ne-eqb _ _ (c .before .before .before .if1 .left)) (search tests)
+returns-2 c = simp (← (c .before .before .is-reported .ensures), ne-eqb, c .before .if2 .taken, c .before .before .before .if1 .left) (search tests)
 
 returns-3 : tie.Need-returns-3
 unfolding validDepth
-returns-3 c = rw (ne-eqb _ _ (c .before .before .if1 .left)) (search tests)
+returns-3 c = simp (← (c .before .is-reported .ensures)) (search tests)
 
 pub valid-depth-spec : {M : Type 1} → statement M
-valid-depth-spec = tie.close (tie.spec returns is-reported-requires returns-2 returns-3)
+valid-depth-spec =
+    tie.close (tie.spec returns is-reported-requires cast-result returns-2 returns-3)

@@ -1,5 +1,6 @@
 use Prim.Native.Nat.{_≤_, _-_}
 use native.Mathlib.Omega.{arith}
+use borrow.Author.Needs.{needs}
 use Rattle.test_run.proofs.observations.covers.Statement.{statement}
 use Rattle.test_run.proofs.observations.covers.Tie as tie
 
@@ -11,6 +12,9 @@ abbrev μ-loop : tie.MeasureT-loop
 
 loop-holds : tie.Need-loop-holds Inv-loop μ-loop
 loop-holds c = omega arith
+
+cast-at-cover : tie.Need-cast-at-cover Inv-loop μ-loop
+cast-at-cover c = search needs
 
 at-cover-requires : tie.Need-at-cover-requires Inv-loop μ-loop
 at-cover-requires c κs = tt
@@ -24,8 +28,14 @@ loop-less c = omega arith
 loop-again : tie.Need-loop-again Inv-loop μ-loop
 loop-again c = omega arith
 
+cast-at-cover-2 : tie.Need-cast-at-cover-2 Inv-loop μ-loop
+cast-at-cover-2 c = search needs
+
 at-cover-requires-2 : tie.Need-at-cover-requires-2 Inv-loop μ-loop
 at-cover-requires-2 c κs = tt
+
+cast-at-cover-3 : tie.Need-cast-at-cover-3 Inv-loop μ-loop
+cast-at-cover-3 c = search needs
 
 at-cover-requires-3 : tie.Need-at-cover-requires-3 Inv-loop μ-loop
 at-cover-requires-3 c κs = tt
@@ -40,10 +50,13 @@ covers-spec =
     Inv-loop
     μ-loop
     loop-holds
+    cast-at-cover
     at-cover-requires
     add-cover
     loop-less
     loop-again
+    cast-at-cover-2
     at-cover-requires-2
+    cast-at-cover-3
     at-cover-requires-3
     returns)
