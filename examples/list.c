@@ -21,5 +21,5 @@ int main(void)
     if (fwrite(listing, 1, size, stdout) != size || fflush(stdout) != 0) {
         return 2;
     }
-    return phengaryl_read(message, length) == PHENGARYL_ACCEPTED ? 0 : 1;
+    return phengaryl_read(message, length).refusal == PHENGARYL_TAKEN ? 0 : 1;
 }

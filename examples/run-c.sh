@@ -1,5 +1,6 @@
 #!/bin/sh
-# Proves and builds the library, compiles the C example and runs it on the sample message.
+# Proves and builds the library, compiles the C examples, reports the rows of examples/reports.txt to a board, and lists the notice that comes
+# of it; its heading is that of examples/sample.txt.
 #
 #     examples/run-c.sh
 #
@@ -13,15 +14,19 @@ cd "$(dirname "$0")/.."
 
 step() { printf '== %s\n' "$1"; }
 
-mkdir -p target/examples
-step "proving the library and writing target/staticlib/libphengaryl.a (five minutes from nothing, seconds where nothing has changed)"
-if ! rt staticlib phengaryl >target/examples/library.log 2>&1; then
-    cat target/examples/library.log
-    exit 1
-fi
-
-step "compiling examples/list.c"
 # Both commands may have options, so they are not quoted.
-${CC:-cc} -std=c99 -O2 -Wall -Wextra -Iinclude -o target/examples/list examples/list.c target/staticlib/libphengaryl.a
-step "listing examples/sample.txt"
-${RUN:-} target/examples/list <examples/sample.txt
+compile() {
+    step "compiling examples/$1.c"
+    ${CC:-cc} -std=c99 -O2 -Wall -Wextra -Wconversion -Iinclude -o "target/examples/$1" "examples/$1.c" target/staticlib/libphengaryl.a
+}
+
+./build.sh
+mkdir -p target/examples
+compile terminal
+compile list
+
+step "reporting examples/reports.txt to a board of XQAA with the runways 07L and 07R"
+${RUN:-} target/examples/terminal examples/sample.txt XQAA 07L 07R <examples/reports.txt >target/examples/notice.txt
+
+step "listing the notice that it wrote, target/examples/notice.txt"
+${RUN:-} target/examples/list <target/examples/notice.txt

@@ -1,5 +1,6 @@
 #!/bin/sh
-# Proves and builds the library, compiles the Rust example, lists the sample message with it, and compares that message with its canonical text.
+# Proves and builds the library, compiles the Rust example, and reports the rows of examples/reports.txt to a board; the heading of the notice
+# that comes of it is that of examples/sample.txt.
 #
 #     examples/run-rust.sh
 #
@@ -13,20 +14,14 @@ cd "$(dirname "$0")/.."
 
 step() { printf '== %s\n' "$1"; }
 
+./build.sh
 mkdir -p target/examples
-step "proving the library and writing target/staticlib/libphengaryl.a (five minutes from nothing, seconds where nothing has changed)"
-if ! rt staticlib phengaryl >target/examples/library.log 2>&1; then
-    cat target/examples/library.log
-    exit 1
-fi
-
 step "compiling examples/rust/src/main.rs"
 # Both commands may have options, so they are not quoted.
-${RUSTC:-rustc} --edition 2021 -O -L native=target/staticlib -l static=phengaryl -o target/examples/notices examples/rust/src/main.rs
-step "listing examples/sample.txt"
-${RUN:-} target/examples/notices examples/sample.txt
+${RUSTC:-rustc} --edition 2021 -O -L native=target/staticlib -l static=phengaryl -o target/examples/terminal-rust examples/rust/src/main.rs
 
-step "comparing it with its canonical text"
-# Behind the listing's first line stands the canonical text.
-${RUN:-} target/examples/notices examples/sample.txt | tail -n +2 >target/examples/canonical.txt
-${RUN:-} target/examples/notices examples/sample.txt target/examples/canonical.txt
+step "reporting examples/reports.txt to a board of XQAA with the runways 07L and 07R"
+${RUN:-} target/examples/terminal-rust examples/sample.txt XQAA 07L 07R <examples/reports.txt >target/examples/notice-rust.txt
+
+step "the notice that it wrote, target/examples/notice-rust.txt"
+cat target/examples/notice-rust.txt

@@ -418,12 +418,7 @@ impl Record {
 
     /// What the heading says besides the aerodrome and the time.
     pub fn details(&self) -> Details {
-        Details {
-            addresses: self.addresses,
-            filing: self.filing,
-            region: self.title.region,
-            serial: self.title.serial,
-        }
+        Details { addresses: self.addresses, filing: self.filing, region: self.title.region, serial: self.title.serial }
     }
 }
 

@@ -1,68 +1,164 @@
-//! Runway notices from Rust: lists the message in a file, or says whether those in two files tell the same.
+//! A small terminal: keeps the board of an aerodrome while the inspection cars call in, and writes it as a notice.
 //!
-//!     notices MESSAGE          prints the listing; status 0 for an accepted message, 1 for a refused one
-//!     notices MESSAGE OTHER    prints SAME or DIFFERENT; status 0 or 1
+//!     terminal MODEL AERODROME RUNWAY... <REPORTS >NOTICE
 //!
-//! The status is 2 where a file cannot be read or nothing can be printed.
+//! It is used and answers as examples/terminal.c. The runways stand in rising order, as 07L 07R. Reports are runway rows on standard input, one
+//! a line; lines end with LF or CR LF, and the last may lack its end. Each is answered on standard error: taken, with the row as the board
+//! shows it now, or refused. At the end the notice goes to standard output, with the heading details, items and plain language of the message
+//! in the file MODEL.
+//!
+//! The exit status is 0 where the notice is written, 1 where the board, the model or the notice is refused, and 2 for wrong use or where
+//! reading or writing fails. A refused report changes nothing, the status neither.
 
-use std::io::Write;
+use std::env;
+use std::fs::File;
+use std::io::{self, Read, Write};
 use std::process::ExitCode;
 
-/// The proved library, declared as include/phengaryl.h has it.
-mod library {
-    extern "C" {
-        pub fn phengaryl_read(message: *const u8, length: usize) -> u8;
-        pub fn phengaryl_list(message: *const u8, length: usize, out: *mut u8, size: usize) -> usize;
-        pub fn phengaryl_same(one: *const u8, one_length: usize, other: *const u8, other_length: usize) -> bool;
+#[path = "../../../include/phengaryl.rs"]
+mod phengaryl;
+
+use phengaryl::{refusal, Board, Record, Row, Runway, LONGEST_TEXT};
+
+/// Why the terminal stops without a notice.
+enum Stop {
+    Refused(&'static str, u8),
+    Failed(io::Error),
+}
+
+impl From<io::Error> for Stop {
+    fn from(error: io::Error) -> Stop {
+        Stop::Failed(error)
     }
 }
 
-/// No listing is longer.
-const LONGEST_LISTING: usize = 4113;
-
-/// The refusal number of a message, 0 for accepted.
-fn read(message: &[u8]) -> u8 {
-    // A slice is a pointer to so many bytes, and not null.
-    unsafe { library::phengaryl_read(message.as_ptr(), message.len()) }
-}
-
-/// What the lister prints of a message.
-fn list(message: &[u8]) -> Vec<u8> {
-    let mut out = vec![0; LONGEST_LISTING];
-    // The buffer is not part of the message, and suffices.
-    let size = unsafe { library::phengaryl_list(message.as_ptr(), message.len(), out.as_mut_ptr(), out.len()) };
-    out.truncate(size);
-    out
-}
-
-/// Whether two messages are accepted and tell the same.
-fn same(one: &[u8], other: &[u8]) -> bool {
-    // Both are only read, so they may even be one.
-    unsafe { library::phengaryl_same(one.as_ptr(), one.len(), other.as_ptr(), other.len()) }
-}
-
-fn run(files: &[String]) -> std::io::Result<bool> {
-    let mut out = std::io::stdout();
-    if let [one, other] = files {
-        let is_same = same(&std::fs::read(one)?, &std::fs::read(other)?);
-        writeln!(out, "{}", if is_same { "SAME" } else { "DIFFERENT" })?;
-        return Ok(is_same);
+/// A refusal in plain words.
+fn words(refusal: u8) -> &'static str {
+    match refusal {
+        refusal::TOO_LONG => "the message is longer than 4,096 bytes",
+        refusal::LINE_1_OR_2 => "line 1 or 2 (addresses, filing time and originator) is missing or wrong",
+        refusal::LINE_3 => "line 3 (the heading) is missing or wrong",
+        refusal::OUTLINE => "the outline of the message is wrong",
+        refusal::NO_ROW => "this is no valid runway row",
+        refusal::NINTH_ROW => "there are more than eight rows",
+        refusal::RUNWAY_TWICE => "the same runway is reported twice",
+        refusal::WRONG_ITEMS => "the awareness line is wrong",
+        refusal::WRONG_LANGUAGE => "the plain language is wrong",
+        refusal::SERIALS_DIFFER => "the two serials differ",
+        refusal::AERODROMES_DIFFER => "the two aerodromes differ",
+        refusal::NOT_LATEST_TIME => "the heading's time is not that of the latest row",
+        refusal::INVALID_RECORD => "the record is not valid",
+        refusal::BUFFER_TOO_SHORT => "the buffer is shorter than the text",
+        refusal::WRONG_BOARD => "the aerodrome or the list of runways is wrong",
+        refusal::NOT_ON_BOARD => "the runway is not on the board",
+        refusal::NOT_LATER => "the report is not later than the row shown",
+        refusal::NO_REPORT => "the board holds no report",
+        _ => "no refusal that a terminal meets",
     }
-    if let [file] = files {
-        let message = std::fs::read(file)?;
-        out.write_all(&list(&message))?;
-        return Ok(read(&message) == 0);
+}
+
+/// The message in a file: one byte more than a message may have is read, so that a longer one is refused for its length.
+fn read_model(path: &str) -> Result<Record, Stop> {
+    let mut message = Vec::new();
+    File::open(path)?.take(LONGEST_TEXT as u64 + 1).read_to_end(&mut message)?;
+    Record::read(&message).map_err(|n| Stop::Refused("model", n))
+}
+
+/// A runway such as 07 or 07L. What is none becomes zeros, which the library refuses.
+fn runway_of(text: &str) -> Runway {
+    let (digits, side) = match text.as_bytes() {
+        [digits @ .., b'L'] => (digits, 1),
+        [digits @ .., b'C'] => (digits, 2),
+        [digits @ .., b'R'] => (digits, 3),
+        digits => (digits, 0),
+    };
+    match digits {
+        [tens @ b'0'..=b'9', ones @ b'0'..=b'9'] => Runway { number: 10 * (tens - b'0') + (ones - b'0'), side },
+        _ => Runway::default(),
     }
-    Err(std::io::Error::new(std::io::ErrorKind::InvalidInput, "usage: notices MESSAGE [OTHER]"))
+}
+
+fn open_board(name: &str, runways: &[String]) -> Result<Board, Stop> {
+    let runways: Vec<Runway> = runways.iter().map(|text| runway_of(text)).collect();
+    // A name of another length becomes zeros, which the library refuses.
+    let aerodrome = name.as_bytes().try_into().unwrap_or([0; 4]);
+    Board::open(&aerodrome, &runways).map_err(|n| Stop::Refused("board", n))
+}
+
+/// The next line without its end. Of an over-long one so much is kept that it is still over-long without a CR.
+fn next_line(input: &mut impl Read) -> io::Result<Option<Vec<u8>>> {
+    let mut line = Vec::new();
+    for byte in input.bytes() {
+        match byte? {
+            b'\n' => {
+                if line.last() == Some(&b'\r') {
+                    line.pop();
+                }
+                return Ok(Some(line));
+            }
+            byte if line.len() < LONGEST_TEXT + 2 => line.push(byte),
+            _ => {}
+        }
+    }
+    Ok(Some(line).filter(|last| !last.is_empty()))
+}
+
+/// Reports a line to the board and answers the row that is shown now.
+fn report_line(board: &mut Board, line: &[u8]) -> Result<Row, u8> {
+    if line.len() > LONGEST_TEXT {
+        return Err(refusal::NO_ROW);
+    }
+    let row = Row::read(line)?;
+    board.report(&row)?;
+    Ok(row)
+}
+
+fn take_reports(board: &mut Board) -> io::Result<()> {
+    let mut input = io::stdin().lock();
+    let mut answers = io::stderr();
+    let mut number = 0;
+    while let Some(line) = next_line(&mut input)? {
+        number += 1;
+        match report_line(board, &line) {
+            Ok(row) => {
+                let text = row.text().unwrap_or_default();
+                writeln!(answers, "line {number}: taken, {}", String::from_utf8_lossy(&text))?;
+            }
+            Err(n) => writeln!(answers, "line {number}: refused {n}, {}", words(n))?,
+        }
+    }
+    Ok(())
+}
+
+fn run(model: &str, aerodrome: &str, runways: &[String]) -> Result<(), Stop> {
+    let model = read_model(model)?;
+    let mut board = open_board(aerodrome, runways)?;
+    take_reports(&mut board)?;
+    let notice =
+        board.notice(&model.details(), &model.items, &model.language).map_err(|n| Stop::Refused("notice", n))?;
+    let mut out = io::stdout();
+    out.write_all(&notice)?;
+    out.flush()?;
+    Ok(())
 }
 
 fn main() -> ExitCode {
-    let files: Vec<String> = std::env::args().skip(1).collect();
-    match run(&files) {
-        Ok(true) => ExitCode::SUCCESS,
-        Ok(false) => ExitCode::from(1),
-        Err(error) => {
-            eprintln!("notices: {error}");
+    let arguments: Vec<String> = env::args_os().skip(1).map(|word| word.to_string_lossy().into_owned()).collect();
+    let done = match &arguments[..] {
+        [model, aerodrome, runways @ ..] if !runways.is_empty() => run(model, aerodrome, runways),
+        _ => {
+            let usage = "usage: terminal MODEL AERODROME RUNWAY... <REPORTS >NOTICE";
+            Err(io::Error::new(io::ErrorKind::InvalidInput, usage).into())
+        }
+    };
+    match done {
+        Ok(()) => ExitCode::SUCCESS,
+        Err(Stop::Refused(what, n)) => {
+            eprintln!("{what}: refused {n}, {}", words(n));
+            ExitCode::from(1)
+        }
+        Err(Stop::Failed(error)) => {
+            eprintln!("terminal: {error}");
             ExitCode::from(2)
         }
     }
