@@ -12,7 +12,7 @@
 
 use std::env;
 use std::fs::File;
-use std::io::{self, Read, Write};
+use std::io::{self, BufRead, Read, Write};
 use std::process::ExitCode;
 
 #[path = "../../../include/phengaryl.rs"]
@@ -86,7 +86,7 @@ fn open_board(name: &str, runways: &[String]) -> Result<Board, Stop> {
 }
 
 /// The next line without its end. Of an over-long one so much is kept that it is still over-long without a CR.
-fn next_line(input: &mut impl Read) -> io::Result<Option<Vec<u8>>> {
+fn next_line(input: &mut impl BufRead) -> io::Result<Option<Vec<u8>>> {
     let mut line = Vec::new();
     for byte in input.bytes() {
         match byte? {
