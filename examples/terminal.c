@@ -8,7 +8,7 @@
  * notice goes to standard output, with the heading details, items and plain language of the message in the file MODEL.
  *
  * The exit status is 0 where the notice is written, 1 where the board, the model or the notice is refused, and 2 for wrong use or where
- * reading or writing fails. A refused report changes nothing, the status neither.
+ * reading or writing fails. A refused report changes neither the board nor the status.
  */
 #include <stdio.h>
 #include <string.h>
@@ -217,7 +217,7 @@ int main(int argc, char **argv)
         return failed(argv[1]);
     }
     if (model.refusal != PHENGARYL_TAKEN) {
-        return refused(argv[1], model.refusal);
+        return refused("model", model.refusal);
     }
     phengaryl_answer opened = open_board(argv[2], argv + 3, argc - 3);
     if (opened.refusal != PHENGARYL_TAKEN) {

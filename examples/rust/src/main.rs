@@ -8,7 +8,7 @@
 //! in the file MODEL.
 //!
 //! The exit status is 0 where the notice is written, 1 where the board, the model or the notice is refused, and 2 for wrong use or where
-//! reading or writing fails. A refused report changes nothing, the status neither.
+//! reading or writing fails. A refused report changes neither the board nor the status.
 
 use std::env;
 use std::fs::File;
@@ -151,15 +151,12 @@ fn main() -> ExitCode {
             Err(io::Error::new(io::ErrorKind::InvalidInput, usage).into())
         }
     };
-    match done {
-        Ok(()) => ExitCode::SUCCESS,
-        Err(Stop::Refused(what, n)) => {
-            eprintln!("{what}: refused {n}, {}", words(n));
-            ExitCode::from(1)
-        }
-        Err(Stop::Failed(error)) => {
-            eprintln!("terminal: {error}");
-            ExitCode::from(2)
-        }
-    }
+    let (status, why) = match done {
+        Ok(()) => return ExitCode::SUCCESS,
+        Err(Stop::Refused(what, n)) => (1, format!("{what}: refused {n}, {}", words(n))),
+        Err(Stop::Failed(error)) => (2, format!("terminal: {error}")),
+    };
+    // Where even this cannot be written, the status still tells it.
+    let _ = writeln!(io::stderr(), "{why}");
+    ExitCode::from(status)
 }
