@@ -7,11 +7,13 @@ const SHALLOW: u16 = 3;
 const COLD: i32 = -150;
 
 /// The refusal (0, 15 or 16), and code, coverage, depth and description; a refused assessment is all zero.
-pub fn assess(kind: u8, cover: u8, depth: u16, temperature: i32, slippery: bool) -> (u8, [u16; 4]) {
-    let kind = u16::from(kind);
-    if !(1..=row::DRY).contains(&kind) || cover > 100 || depth > 999 || !(-600..=600).contains(&temperature) {
+pub fn assess(kind: u32, cover: u32, depth: u32, temperature: i32, slippery: bool) -> (u8, [u16; 4]) {
+    if !(1..=u32::from(row::DRY)).contains(&kind) || cover > 100 || depth > 999 || !(-600..=600).contains(&temperature)
+    {
         return (15, [0; 4]);
     }
+    // Only numbers in range are cut down.
+    let (kind, depth) = (kind as u16, depth as u16);
     let contradictory = match kind {
         row::DRY => cover > 0 || depth > 0 || slippery,
         row::WET => depth > SHALLOW,
@@ -107,7 +109,7 @@ mod tests {
             assert_eq!(assess(kind, 100, 0, 0, false).1[0], code, "kind {kind}");
         }
         for (kind, code) in [(2, 3), (7, 2), (8, 2), (12, 3)] {
-            assert_eq!(assess(kind, 100, 999, 0, false), (0, [code, 100, 999, u16::from(kind)]));
+            assert_eq!(assess(kind, 100, 999, 0, false), (0, [code, 100, 999, kind as u16]));
         }
         assert_eq!(assess(10, 100, 3, 0, true), (0, [3, 100, 0, 10]));
     }
@@ -117,6 +119,18 @@ mod tests {
         for (kind, cover, depth, temperature) in
             [(0, 0, 0, 0), (16, 0, 0, 0), (5, 101, 0, 0), (7, 0, 1000, 0), (5, 0, 0, -601), (5, 0, 0, 601)]
         {
+            assert_eq!(assess(kind, cover, depth, temperature, false), (15, [0; 4]));
+        }
+        // Numbers that would be in range, were they cut down to 8 or 16 bits.
+        for (kind, cover, depth, temperature) in [
+            (256 + 5, 50, 0, 0),
+            (5, 300, 0, 0),
+            (5, 256 + 50, 0, 0),
+            (7, 50, 65536 + 3, 0),
+            (7, 50, u32::MAX, 0),
+            (5, 50, 0, 65536),
+            (5, 50, 0, i32::MIN),
+        ] {
             assert_eq!(assess(kind, cover, depth, temperature, false), (15, [0; 4]));
         }
         for (kind, cover, depth, slippery) in [

@@ -74,6 +74,19 @@ fn printed(run: Option<Run>) -> Vec<u8> {
 }
 
 impl Session {
+    /// The board that a desk input opens, and its row lines; none where it opens none.
+    pub fn read(input: &[u8]) -> Option<Session> {
+        let lines = lines(input);
+        let (first, reports) = lines.split_first()?;
+        let Board { aerodrome, places } = Board::read(first)?;
+        let mut runways = [Runway::default(); MOST_RUNWAYS];
+        for (runway, place) in runways.iter_mut().zip(&places) {
+            *runway = place.runway;
+        }
+        let lines = reports.iter().map(|line| line.to_vec()).collect();
+        Some(Session { aerodrome, runways, count: places.len() as u8, lines })
+    }
+
     /// The list is wrong too if something stands past its count, be it a side alone.
     fn board(&self) -> Option<Board> {
         let count = usize::from(self.count);

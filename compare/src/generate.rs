@@ -4,13 +4,17 @@ mod damage;
 mod desk;
 mod numbers;
 mod records;
+#[cfg(feature = "library")]
+mod structs;
 mod typing;
 
 pub use board::{board_notice, session};
 pub use damage::damaged;
 pub use desk::{desk_input, opening_line, row_line};
-pub use numbers::{numbers, observation};
+pub use numbers::{numbers, observation, Observation};
 pub use records::record;
+#[cfg(feature = "library")]
+pub use structs::{damage_board, damage_record};
 pub use typing::{stretched, typing};
 
 use crate::reader::{Record, LONGEST_MESSAGE};

@@ -121,7 +121,7 @@ impl Item {
         }
     }
 
-    fn runway(&self) -> Option<Runway> {
+    pub fn runway(&self) -> Option<Runway> {
         match self {
             Item::Reduced { runway, .. }
             | Item::LooseSand { runway }

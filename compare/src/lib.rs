@@ -10,6 +10,9 @@ pub mod edges;
 pub mod generate;
 pub mod items;
 #[cfg(feature = "library")]
+mod judge;
+#[cfg(feature = "library")]
+#[path = "../../include/phengaryl.rs"]
 mod library;
 mod models;
 mod observations;
@@ -19,5 +22,7 @@ pub mod row;
 #[cfg(feature = "library")]
 pub mod run;
 pub mod selfcheck;
+#[cfg(feature = "library")]
+mod structs;
 pub mod test_run;
 mod text;

@@ -2,13 +2,13 @@
 use crate::assess::{agrees, assess};
 use crate::row::{self, Third};
 
-const COMPACTED_SNOW: u8 = row::COMPACTED_SNOW as u8;
-const FROST: u8 = row::FROST as u8;
-const SLUSH: u8 = row::SLUSH as u8;
-const DRY: u8 = row::DRY as u8;
+const COMPACTED_SNOW: u32 = row::COMPACTED_SNOW as u32;
+const FROST: u32 = row::FROST as u32;
+const SLUSH: u32 = row::SLUSH as u32;
+const DRY: u32 = row::DRY as u32;
 
 /// Kind, cover, depth, temperature and slippery.
-type Observation = (u8, u8, u16, i32, bool);
+type Observation = (u32, u32, u32, i32, bool);
 
 fn observations() -> Vec<Observation> {
     let mut seen = Vec::new();
@@ -31,9 +31,9 @@ fn line(seen: Observation) -> String {
     let (refusal, told) = assess(kind, cover, depth, temperature, slippery);
     let [code, coverage, reported, description] = told;
     let third = Third { code, coverage, depth: reported, description };
-    let observed = [kind.into(), cover.into(), depth, slippery.into(), refusal.into()];
+    let observed = [kind, cover, depth, slippery.into(), refusal.into()];
     let judged = [third.is_valid().into(), agrees(&third).into()];
-    let numbers = observed.into_iter().chain(told).chain(judged);
+    let numbers = observed.into_iter().chain(told.map(u32::from)).chain(judged);
     numbers.map(|number| format!("{number:04} ")).collect::<String>() + "\n"
 }
 

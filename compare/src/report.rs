@@ -28,9 +28,14 @@ impl Report {
     }
 
     pub fn differ(&mut self, what: &str, input: &[u8], expected: &str, told: &str) {
+        self.differ_on(what, &format!("\"{}\"", input.escape_ascii()), expected, told);
+    }
+
+    /// As `differ`, of an input that is readable already.
+    pub fn differ_on(&mut self, what: &str, input: &str, expected: &str, told: &str) {
         self.differences += 1;
         if self.differences <= SHOWN {
-            println!("{what} differs on \"{}\"\n  expected {expected}\n  told     {told}", input.escape_ascii());
+            println!("{what} differs on {input}\n  expected {expected}\n  told     {told}");
         }
     }
 

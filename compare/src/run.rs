@@ -1,21 +1,84 @@
 //! The comparison of the proved library with the second reader, on seeded inputs.
-use crate::assess;
-use crate::desk;
-use crate::generate::{self, Rng};
-use crate::library;
-use crate::reader;
+mod board;
+mod notice;
+mod surface;
+
+use std::fmt::Debug;
+
+use crate::generate::Rng;
+use crate::library::Written;
 use crate::report::Report;
 
 /// What a lent byte is before a call, so that a touched one shows.
 const UNTOUCHED: u8 = 0xa5;
 
-/// Room for a text: mostly more than enough, at times exactly enough, one byte less, or any less.
-fn room(rng: &mut Rng, length: usize) -> usize {
-    match rng.below(8) {
-        0 => length,
-        1 => length.saturating_sub(1),
-        2 => rng.below(length + 1),
-        _ => length + 16,
+/// Where the inputs come from, and where differences go.
+struct Run {
+    rng: Rng,
+    report: Report,
+}
+
+impl Run {
+    /// Room for a text: mostly more than enough, at times exactly enough, one byte less, or any less.
+    fn room(&mut self, length: usize) -> Vec<u8> {
+        let room = match self.rng.below(8) {
+            0 => length,
+            1 => length.saturating_sub(1),
+            2 => self.rng.below(length + 1),
+            _ => length + 16,
+        };
+        vec![UNTOUCHED; room]
+    }
+
+    fn agree<T: Debug + PartialEq>(&mut self, what: &str, input: impl Debug, expected: T, told: T) {
+        if told != expected {
+            self.report.differ_on(what, &format!("{input:?}"), &format!("{expected:?}"), &format!("{told:?}"));
+        }
+    }
+
+    /// A writer fills exactly the text, or refuses and touches nothing; 14 is its answer where the room is too short.
+    fn writes(
+        &mut self,
+        what: &str,
+        input: impl Debug,
+        expected: Result<&[u8], u8>,
+        writer: impl FnOnce(&mut [u8]) -> Written,
+    ) {
+        let mut buffer = self.room(expected.map_or(64, <[u8]>::len));
+        let expected = match expected {
+            Ok(text) if text.len() <= buffer.len() => (0, text.len(), filled(text, buffer.len())),
+            other => (other.err().unwrap_or(14), 0, vec![UNTOUCHED; buffer.len()]),
+        };
+        let Written { refusal, length } = writer(&mut buffer);
+        self.agree(what, input, Left::new(expected), Left::new((refusal, length, buffer)));
+    }
+
+    /// A printer puts a text as far as there is room, and answers its whole length.
+    fn prints(&mut self, what: &str, input: &[u8], text: &[u8], printer: impl FnOnce(&mut [u8]) -> usize) {
+        let mut buffer = self.room(text.len());
+        let expected = (0, text.len(), filled(text, buffer.len()));
+        let length = printer(&mut buffer);
+        self.agree(what, Shown(input), Left::new(expected), Left::new((0, length, buffer)));
+    }
+}
+
+/// Bytes that are shown escaped.
+#[derive(PartialEq)]
+struct Shown<B>(B);
+
+impl<B: AsRef<[u8]>> Debug for Shown<B> {
+    fn fmt(&self, out: &mut std::fmt::Formatter) -> std::fmt::Result {
+        write!(out, "\"{}\"", self.0.as_ref().escape_ascii())
+    }
+}
+
+/// What a call left: its refusal, the length it told, and the buffer.
+#[derive(Debug, PartialEq)]
+struct Left(u8, usize, Shown<Vec<u8>>);
+
+impl Left {
+    fn new((refusal, length, buffer): (u8, usize, Vec<u8>)) -> Left {
+        Left(refusal, length, Shown(buffer))
     }
 }
 
@@ -27,114 +90,31 @@ fn filled(text: &[u8], room: usize) -> Vec<u8> {
     buffer
 }
 
-fn told(answer: impl std::fmt::Debug, buffer: &[u8]) -> String {
-    format!("{answer:?} \"{}\"", buffer.escape_ascii())
-}
-
-fn message(rng: &mut Rng, report: &mut Report) {
-    let message = generate::message(rng).message;
-    let (refusal, text) = match reader::read(&message) {
-        Ok(record) => (0, reader::write(&record)),
-        Err(number) => (number, Vec::new()),
-    };
-    report.count(refusal);
-
-    let number = library::read(&message);
-    if number != refusal {
-        report.differ("reading", &message, &refusal.to_string(), &number.to_string());
-    }
-
-    let room_for_text = room(rng, text.len());
-    let expected = match refusal {
-        0 if room_for_text < text.len() => (14, 0, vec![UNTOUCHED; room_for_text]),
-        _ => (refusal, text.len(), filled(&text, room_for_text)),
-    };
-    let mut buffer = vec![UNTOUCHED; room_for_text];
-    let (number, length) = library::canonical(&message, &mut buffer);
-    if (number, length, &buffer) != (expected.0, expected.1, &expected.2) {
-        report.differ(
-            "canonical",
-            &message,
-            &told((expected.0, expected.1), &expected.2),
-            &told((number, length), &buffer),
-        );
-    }
-
-    let listing = reader::listing(&message);
-    let room_for_listing = room(rng, listing.len());
-    let mut buffer = vec![UNTOUCHED; room_for_listing];
-    let length = library::list(&message, &mut buffer);
-    let expected = filled(&listing, room_for_listing);
-    if (length, &buffer) != (listing.len(), &expected) {
-        report.differ("listing", &message, &told(listing.len(), &expected), &told(length, &buffer));
-    }
-}
-
-fn pair(rng: &mut Rng, report: &mut Report) -> bool {
-    let (one, other) = generate::pair(rng);
-    let expected = reader::same(&one, &other);
-    let answer = library::same(&one, &other);
-    if answer != expected {
-        let both = [&one[..], b"\n--- and\n", &other].concat();
-        report.differ("sameness", &both, &expected.to_string(), &answer.to_string());
-    }
-    expected
-}
-
-fn desk_input(rng: &mut Rng, report: &mut Report) {
-    let input = generate::desk_input(rng);
-    let output = desk::desk(&input);
-    let room = room(rng, output.len());
-    let mut buffer = vec![UNTOUCHED; room];
-    let length = library::desk(&input, &mut buffer);
-    let expected = filled(&output, room);
-    if (length, &buffer) != (output.len(), &expected) {
-        report.differ("desk", &input, &told(output.len(), &expected), &told(length, &buffer));
-    }
-}
-
-fn observation(rng: &mut Rng, report: &mut Report) {
-    let seen = generate::observation(rng);
-    let expected = assess::assess(seen.kind, seen.cover, seen.depth, seen.temperature, seen.slippery);
-    let answer = library::assess(seen.kind, seen.cover, seen.depth, seen.temperature, seen.slippery);
-    report.count(expected.0);
-    if answer != expected {
-        let input = format!("{} {} {} {} {}", seen.kind, seen.cover, seen.depth, seen.temperature, seen.slippery);
-        report.differ("assessing", input.as_bytes(), &format!("{expected:?}"), &format!("{answer:?}"));
-    }
-}
-
-fn row(rng: &mut Rng, report: &mut Report) {
-    let row = generate::numbers(rng);
-    let expected = assess::agreement(&row);
-    let mut thirds = [0; 12];
-    for (place, third) in thirds.chunks_exact_mut(4).zip(&row.thirds) {
-        place.copy_from_slice(&[third.code, third.coverage, third.depth, third.description]);
-    }
-    let answer = library::agreement(row.time, row.runway.number, row.runway.side, &thirds, row.width);
-    report.count(expected.0);
-    if answer != expected {
-        report.differ("agreement", format!("{row:?}").as_bytes(), &format!("{expected:?}"), &format!("{answer:?}"));
-    }
-}
-
 /// Whether nothing differed.
 pub fn run(count: usize, seed: u64) -> bool {
-    let mut rng = Rng::new(seed);
-    let mut report = Report::new();
+    let mut run = Run { rng: Rng::new(seed), report: Report::new() };
     let tenth = count / 10;
-    (0..count).for_each(|_| message(&mut rng, &mut report));
-    report.print_counts("messages");
-    let equal = (0..tenth).filter(|_| pair(&mut rng, &mut report)).count();
+    (0..count).for_each(|_| run.message());
+    run.report.print_counts("messages");
+    let equal = (0..tenth).filter(|_| run.pair()).count();
     println!("pairs that tell the same: {equal}");
-    (0..tenth).for_each(|_| desk_input(&mut rng, &mut report));
-    (0..count).for_each(|_| observation(&mut rng, &mut report));
-    report.print_counts("observations");
-    (0..count).for_each(|_| row(&mut rng, &mut report));
-    report.print_counts("rows as numbers");
+    (0..tenth).for_each(|_| run.desk_input());
+    (0..tenth).for_each(|_| run.board_notice());
+    run.report.print_counts("board notices");
+    (0..tenth).for_each(|_| run.live_board());
+    run.report.print_counts("damaged boards, written");
+    (0..count).for_each(|_| run.observation());
+    run.report.print_counts("observations");
+    (0..count).for_each(|_| run.row());
+    run.report.print_counts("rows as numbers");
+    (0..count).for_each(|_| run.row_line());
+    run.report.print_counts("rows as text");
+    (0..count).for_each(|_| run.damaged_record());
+    run.report.print_counts("damaged records");
     println!(
-        "{count} messages, {tenth} pairs, {tenth} desk inputs, {count} observations, {count} rows, {} differences",
-        report.differences()
+        "{count} messages, {tenth} pairs, {tenth} desk inputs, {tenth} board notices, {tenth} live boards, \
+         {count} observations, {count} rows, {count} damaged records, {} differences",
+        run.report.differences()
     );
-    report.differences() == 0
+    run.report.differences() == 0
 }

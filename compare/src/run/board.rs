@@ -1,0 +1,135 @@
+//! The desk's text, and boards that are kept as structs.
+use super::{Run, Shown};
+use crate::desk::{self, Session};
+use crate::generate;
+use crate::judge;
+use crate::library::{self, Answer, Board, Record, Row, RunwayList};
+use crate::reader::LONGEST_MESSAGE;
+
+/// A board in the library, and what it answered to each line.
+struct Live {
+    board: Board,
+    answers: Vec<u8>,
+}
+
+impl Run {
+    pub fn desk_input(&mut self) {
+        let input = generate::desk_input(&mut self.rng);
+        self.prints("desk", &input, &desk::desk(&input), |out| library::desk(&input, out));
+    }
+
+    /// The notice of a desk's board, from texts at once and by way of the structs.
+    pub fn board_notice(&mut self) {
+        let (input, model) = generate::board_notice(&mut self.rng);
+        let both = (Shown(&input), Shown(&model));
+        let notice = desk::notice(&input, &model);
+        let expected = notice.as_deref().map_err(|&refusal| refusal);
+        self.report.count(expected.err().unwrap_or(0));
+        self.writes("a board's notice", &both, expected, |out| library::board_notice(&input, &model, out));
+
+        let live = Session::read(&input).and_then(|session| self.live(&session));
+        if let Some(Live { board, .. }) = live {
+            let Record { items, language, .. } = library::read(&model).record;
+            let details = library::read(&model).record.details();
+            self.writes("a live board's notice", &both, expected, |out| {
+                library::write_board(&board, &details, &items, &language, out)
+            });
+        }
+    }
+
+    /// A board opened with numbers prints what the desk would, and is judged once more with something done to it.
+    pub fn live_board(&mut self) {
+        let session = generate::session(&mut self.rng);
+        let live = self.live(&session);
+        self.agree("a live board", &session, Shown(desk::live(&session)), Shown(printed(live.as_ref())));
+        if let Some(Live { board, .. }) = live {
+            self.damaged_board(board);
+        }
+    }
+
+    /// Opens a board, and reports each line that is a row. Every board that comes of it keeps the rules.
+    fn live(&mut self, session: &Session) -> Option<Live> {
+        let list = RunwayList { count: session.count, runways: session.runways.map(library::Runway::from) };
+        let Answer { refusal, mut board } = library::open(&session.aerodrome, &list);
+        if refusal != 0 {
+            let expected = Answer { refusal: 17, board: Board::default() };
+            self.agree("a refused opening", session, expected, Answer { refusal, board });
+            return None;
+        }
+        self.agree("an opened board", session, true, library::valid_board(&board));
+        let mut answers = Vec::new();
+        for line in &session.lines {
+            answers.push(self.report_line(&mut board, line));
+        }
+        Some(Live { board, answers })
+    }
+
+    /// As the desk takes a line: one that is too long is not looked at.
+    fn report_line(&mut self, board: &mut Board, line: &[u8]) -> u8 {
+        if line.len() > LONGEST_MESSAGE {
+            return 5;
+        }
+        let read = library::read_row(line);
+        if read.refusal != 0 {
+            return read.refusal;
+        }
+        let answer = self.report_row(board, &read.row);
+        self.agree("a board after a report", answer, true, library::valid_board(&answer.board));
+        *board = answer.board;
+        answer.refusal
+    }
+
+    fn report_row(&mut self, board: &Board, row: &Row) -> Answer {
+        let answer = library::report(board, row);
+        self.agree("a report", (board, row), judge::report(board, row), answer);
+        answer
+    }
+
+    fn damaged_board(&mut self, mut board: Board) {
+        let row = self.row_for(&board);
+        generate::damage_board(&mut self.rng, &mut board);
+        self.agree("a damaged board", board, judge::is_board(&board), library::valid_board(&board));
+        self.report_row(&board, &row);
+
+        let mut record = Record::from(&generate::record(&mut self.rng));
+        if self.rng.chance(30) {
+            generate::damage_record(&mut self.rng, &mut record);
+        }
+        let Record { items, language, .. } = record;
+        let details = record.details();
+        let notice = judge::notice(&board, &details, &items, &language);
+        let expected = notice.as_deref().map_err(|&refusal| refusal);
+        self.report.count(expected.err().unwrap_or(0));
+        self.writes("a damaged board's notice", (board, record), expected, |out| {
+            library::write_board(&board, &details, &items, &language, out)
+        });
+    }
+
+    /// A row that may be invalid, mostly of one of the board's runways and observed about when the row shown was.
+    fn row_for(&mut self, board: &Board) -> Row {
+        let mut row = Row::from(&generate::numbers(&mut self.rng));
+        let place = self.rng.below(board.count.into());
+        if self.rng.chance(70) {
+            (row.number, row.side) = (board.runways[place].number, board.runways[place].side);
+        }
+        if self.rng.chance(50) {
+            row.time = board.rows[place].time.wrapping_add(self.rng.pick(&[0, 1, u32::MAX]));
+        }
+        row
+    }
+}
+
+/// What the desk prints, put together from what the library answered.
+fn printed(live: Option<&Live>) -> Vec<u8> {
+    let Live { board, answers } = match live {
+        Some(live) => live,
+        None => return b"REFUSED 17\n".to_vec(),
+    };
+    let mut text = b"OPEN\n".to_vec();
+    text.extend(answers.iter().flat_map(|answer| format!("{answer}\n").into_bytes()));
+    for row in board.rows.iter().filter(|row| !judge::is_blank(row)) {
+        text.extend(row.text().unwrap_or_default());
+        text.push(b'\n');
+    }
+    text
+}

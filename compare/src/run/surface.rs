@@ -1,0 +1,48 @@
+//! Observations, and rows as numbers and as text.
+use super::{filled, Run, Shown, UNTOUCHED};
+use crate::assess;
+use crate::generate;
+use crate::library::{self, Agreement, Assessment, RowRead};
+use crate::row::{Row, Third};
+
+impl Run {
+    pub fn observation(&mut self) {
+        let generate::Observation { kind, cover, depth, temperature, slippery } = generate::observation(&mut self.rng);
+        let (refusal, [code, coverage, reported, description]) =
+            assess::assess(kind, cover, depth, temperature, slippery);
+        self.report.count(refusal);
+        let third = (&Third { code, coverage, depth: reported, description }).into();
+        let seen = library::Observation { kind, cover, depth, temperature, slippery };
+        self.agree("assessing", seen, Assessment { refusal, third }, library::assess(seen));
+    }
+
+    /// A row as numbers: its disagreeing thirds, and its text in a room that may be too short.
+    pub fn row(&mut self) {
+        let row = generate::numbers(&mut self.rng);
+        let (refusal, count) = assess::agreement(&row);
+        self.report.count(refusal);
+        let told = library::Row::from(&row);
+        self.agree("agreement", told, Agreement { refusal, count }, library::disagreeing(&told));
+
+        let text = row.text().into_bytes();
+        let mut buffer = self.room(text.len());
+        let expected = if row.is_valid() && text.len() <= buffer.len() {
+            (text.len(), Shown(filled(&text, buffer.len())))
+        } else {
+            (0, Shown(vec![UNTOUCHED; buffer.len()]))
+        };
+        let length = library::write_row(&told, &mut buffer);
+        self.agree("writing a row", told, expected, (length, Shown(buffer)));
+    }
+
+    /// A line that holds a row, or something that was one.
+    pub fn row_line(&mut self) {
+        let line = generate::row_line(&mut self.rng, &[]);
+        let expected = match Row::read(&line) {
+            Some(row) => RowRead { refusal: 0, row: (&row).into() },
+            None => RowRead { refusal: 5, ..Default::default() },
+        };
+        self.report.count(expected.refusal);
+        self.agree("reading a row", Shown(&line), expected, library::read_row(&line));
+    }
+}
