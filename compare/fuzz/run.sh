@@ -5,8 +5,8 @@
 #
 # DIRECTORY holds libphengaryl.a; `rt staticlib phengaryl` writes it to target/staticlib. The branches of the second reader
 # are counted, so that an input that takes a new way in it is kept and varied. The messages of the program `test_run`, every
-# third with the one behind it as a pair, and the input of `desk` come first. It needs an x86-64 machine and CLANG (clang), with
-# its fuzzer. What it found stands in target/corpus; the status is 0 only if nothing differed.
+# third with the one behind it as a pair, and the input of `desk`, alone and with every tenth message as the model of its
+# board's notice, come first. It needs an x86-64 machine and CLANG (clang), with its fuzzer. What it found stands in target/corpus; the status is 0 only if nothing differed.
 set -eu
 
 if [ $# -lt 1 ] || [ $# -gt 2 ]; then
@@ -41,6 +41,9 @@ for n, message in enumerate(messages):
     (corpus / f"message-{n}").write_bytes(b"M" + message)
 for n in range(0, len(messages) - 1, 3):
     (corpus / f"pair-{n}").write_bytes(b"S" + messages[n] + b"\0" + messages[n + 1])
-(corpus / "desk").write_bytes(b"D" + (crates / "desk/stdin").read_bytes())
+desk = (crates / "desk/stdin").read_bytes()
+(corpus / "desk").write_bytes(b"D" + desk)
+for n in range(0, len(messages), 10):
+    (corpus / f"board-{n}").write_bytes(b"B" + desk + b"\0" + messages[n])
 P
 exec "$target/fuzz" -dict=words -max_len=4200 -timeout=20 -max_total_time="$seconds" -print_final_stats=1 "$target/corpus"

@@ -12,6 +12,8 @@ pub mod items;
 #[cfg(feature = "library")]
 mod judge;
 #[cfg(feature = "library")]
+// The file has a module of this name for its declarations.
+#[allow(clippy::module_inception)]
 #[path = "../../include/phengaryl.rs"]
 mod library;
 mod models;

@@ -29,8 +29,9 @@ impl Run {
 
         let live = Session::read(&input).and_then(|session| self.live(&session));
         if let Some(Live { board, .. }) = live {
-            let Record { items, language, .. } = library::read(&model).record;
-            let details = library::read(&model).record.details();
+            let record = library::read(&model).record;
+            let Record { items, language, .. } = record;
+            let details = record.details();
             self.writes("a live board's notice", &both, expected, |out| {
                 library::write_board(&board, &details, &items, &language, out)
             });
