@@ -10,7 +10,7 @@ mod typing;
 
 pub use board::{board_notice, session};
 pub use damage::damaged;
-pub use desk::{desk_input, opening_line, row_line};
+pub use desk::{desk_input, long_row_line, opening_line, row_line};
 pub use numbers::{numbers, observation, Observation};
 pub use records::record;
 #[cfg(feature = "library")]

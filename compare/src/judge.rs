@@ -83,3 +83,55 @@ pub fn notice(board: &Board, details: &Details, items: &Items, language: &Langua
     let (addresses, filing) = (details.addresses, details.filing);
     text(&library::Record { addresses, filing, title, rows, items: *items, language: *language }).ok_or(13)
 }
+
+#[cfg(test)]
+mod tests {
+    use super::*;
+
+    fn row(text: &[u8]) -> library::Row {
+        (&Row::read(text).expect("a good row")).into()
+    }
+
+    fn board() -> Board {
+        let mut board = Board { aerodrome: *b"XQAA", count: 2, ..Default::default() };
+        board.runways[0] = library::Runway { number: 7, side: 1 };
+        board.runways[1] = library::Runway { number: 7, side: 3 };
+        board.rows[1] = row(b"01120640 07R 6/6/6 DRY/DRY/DRY");
+        board
+    }
+
+    /// Each alone breaks a rule of a board that keeps them all.
+    const BREACHES: [fn(&mut Board); 10] = [
+        |board| board.aerodrome[3] = b'a',
+        |board| board.count = 0,
+        |board| board.count = 1,
+        |board| board.count = 3,
+        |board| board.count = 9,
+        |board| board.runways.swap(0, 1),
+        |board| board.runways[0].number = 0,
+        |board| board.runways[7].side = 1,
+        |board| board.rows.swap(0, 1),
+        |board| board.rows[0].width = 1,
+    ];
+
+    #[test]
+    fn the_rules_of_a_board() {
+        assert!(is_board(&board()));
+        for (place, breach) in BREACHES.iter().enumerate() {
+            let mut board = board();
+            breach(&mut board);
+            assert!(!is_board(&board), "breach {place}");
+        }
+    }
+
+    #[test]
+    fn reports() {
+        let told = |text: &[u8]| report(&board(), &row(text)).refusal;
+        assert_eq!(told(b"01120640 07R 5/5/5 NR/NR/NR NR/NR/NR WET/WET/WET"), 20);
+        assert_eq!(told(b"01120641 07R 6/6/6 DRY/DRY/DRY"), 0);
+        assert_eq!(told(b"01120639 07L 6/6/6 DRY/DRY/DRY"), 0);
+        assert_eq!(told(b"01120641 07 6/6/6 DRY/DRY/DRY"), 18);
+        assert_eq!(report(&board(), &library::Row::default()), Answer { refusal: 19, board: board() });
+        assert_eq!(report(&Board::default(), &library::Row::default()).refusal, 17);
+    }
+}

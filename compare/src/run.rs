@@ -102,7 +102,7 @@ pub fn run(count: usize, seed: u64) -> bool {
     (0..tenth).for_each(|_| run.board_notice());
     run.report.print_counts("board notices");
     (0..tenth).for_each(|_| run.live_board());
-    run.report.print_counts("damaged boards, written");
+    run.report.print_counts("damaged boards, reported to and written,");
     (0..count).for_each(|_| run.observation());
     run.report.print_counts("observations");
     (0..count).for_each(|_| run.row());

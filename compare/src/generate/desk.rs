@@ -73,22 +73,23 @@ pub fn row_line(rng: &mut Rng, runways: &[Runway]) -> Vec<u8> {
     line
 }
 
-/// The lines reported to a board, some of them at the longest length and over it.
+/// As `row_line`, but at times at the longest length that the desk looks at or over it.
+pub fn long_row_line(rng: &mut Rng, runways: &[Runway]) -> Vec<u8> {
+    let mut line = row_line(rng, runways);
+    if rng.chance(5) {
+        let length: usize = rng.pick(&[4095, 4096, 4096, 4097, 4097, 4098, 9000]);
+        if let Some(place) = line.iter().position(|&byte| byte == b' ') {
+            let count = length.saturating_sub(line.len());
+            line.splice(place..place, std::iter::repeat(b' ').take(count));
+        }
+    }
+    line
+}
+
+/// The lines reported to a board.
 pub fn row_lines(rng: &mut Rng, runways: &[Runway]) -> Vec<Vec<u8>> {
     let count = rng.pick(&[0, 1, 2, 5, 10, 20, 40]);
-    let mut lines = Vec::new();
-    for _ in 0..count {
-        let mut line = row_line(rng, runways);
-        if rng.chance(5) {
-            let length: usize = rng.pick(&[4095, 4096, 4096, 4097, 4097, 4098, 9000]);
-            if let Some(place) = line.iter().position(|&byte| byte == b' ') {
-                let count = length.saturating_sub(line.len());
-                line.splice(place..place, std::iter::repeat(b' ').take(count));
-            }
-        }
-        lines.push(line);
-    }
-    lines
+    (0..count).map(|_| long_row_line(rng, runways)).collect()
 }
 
 /// An opening line and the lines after it with their ends.

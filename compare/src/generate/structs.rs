@@ -176,3 +176,35 @@ fn damage_language(rng: &mut Rng, language: &mut Language) {
         _ => one_byte(rng, &mut language.bytes, language.length.into()),
     }
 }
+
+#[cfg(test)]
+mod tests {
+    use super::*;
+    use crate::generate::record;
+    use crate::{judge, reader, structs};
+
+    const ALL: usize = 2000;
+
+    #[test]
+    fn a_record_comes_back_whole() {
+        let mut rng = Rng::new(1);
+        for _ in 0..ALL {
+            let record = record(&mut rng);
+            let told = Record::from(&record);
+            assert_eq!(judge::text(&told), Some(reader::write(&record)));
+            assert_eq!(structs::record(&told), Some(record));
+        }
+    }
+
+    #[test]
+    fn damage_leaves_some_records_valid() {
+        let mut rng = Rng::new(1);
+        let mut valid = 0;
+        for _ in 0..ALL {
+            let mut told = Record::from(&record(&mut rng));
+            damage_record(&mut rng, &mut told);
+            valid += usize::from(judge::text(&told).is_some());
+        }
+        assert!((ALL / 10..ALL / 2).contains(&valid), "{valid}");
+    }
+}

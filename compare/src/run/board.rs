@@ -90,7 +90,8 @@ impl Run {
         let row = self.row_for(&board);
         generate::damage_board(&mut self.rng, &mut board);
         self.agree("a damaged board", board, judge::is_board(&board), library::valid_board(&board));
-        self.report_row(&board, &row);
+        let answer = self.report_row(&board, &row);
+        self.report.count(answer.refusal);
 
         let mut record = Record::from(&generate::record(&mut self.rng));
         if self.rng.chance(30) {
