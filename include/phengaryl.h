@@ -303,7 +303,7 @@ phengaryl_assessment phengaryl_assess(phengaryl_observation observation);
 phengaryl_agreement phengaryl_disagreeing(phengaryl_row row);
 
 /*
- * Reads the text of a row, without its line end: the row, or 5.
+ * Reads the text of a row, without its line end: the row, or 5. A text of any length is read; it is the desk that refuses a line over 4,096 bytes.
  */
 phengaryl_row_read phengaryl_read_row(const uint8_t *text, size_t length);
 

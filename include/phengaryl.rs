@@ -387,7 +387,8 @@ pub fn desk(input: &[u8], out: &mut [u8]) -> usize {
 
 /// Writes the board that the desk keeps after a whole input as a notice, with the details, items and plain language of a model message.
 pub fn board_notice(desk: &[u8], model: &[u8], out: &mut [u8]) -> Written {
-    let mut length = 0;
+    // The library stores 0 where it refuses: what stands here shows where it does not.
+    let mut length = usize::MAX;
     // Two slices are read, and the other and the length are borrowed for writing, so nothing overlaps.
     let refusal = unsafe {
         library::phengaryl_board_notice(
