@@ -1,19 +1,20 @@
 #!/usr/bin/env python3
-"""A second reading of document 01's desk program, to compare the program desk with; the rows are those of rows.py.
+"""A second reading of the desk program, with its two desks, to compare the program desk with; the rows are those of rows.py.
 
     python3 compare/desk.py input             writes the stored input of desk
     python3 compare/desk.py input SEED        writes a seeded one, good or damaged
     python3 compare/desk.py answers < input   writes what desk has to answer
     python3 compare/desk.py run PROGRAM N     runs PROGRAM on N seeded inputs, fed in pieces, and compares
 
-The model keeps the reports and works out what each runway shows from all of them, where the program keeps only what is shown.
+The model gives each desk a board of its own, keeps the reports and works out what each runway shows from all of them, where the program has
+one board and keeps only what is shown.
 """
 import random
 import re
 import subprocess
 import sys
 
-from rows import RUNWAYS, answer, cut, damaged, seeded_row
+from rows import LONG_LINE, RUNWAYS, answer, cut, damaged, seeded_row
 
 SIDES = ["", "L", "C", "R"]
 
@@ -22,39 +23,57 @@ def order(runway):
     return int(runway[:2]), SIDES.index(runway[2:])
 
 
+OPENING = re.compile("[A-Z]{4}((?: (?:0[1-9]|1[0-8])[LCR]?/[12]){1,8})")
+
+
 def opened(line):
-    """The runways of an opening line, or None."""
-    aerodrome, *runways = line.split(" ")
-    if len(aerodrome) != 4 or any(not "A" <= c <= "Z" for c in aerodrome):
+    """The runways of an opening line and the owner of each, or None."""
+    shape = OPENING.fullmatch(line)
+    if shape is None:
         return None
-    if not 1 <= len(runways) <= 8 or any(r not in RUNWAYS for r in runways):
+    owners = dict(word.split("/") for word in shape[1].split())
+    # A runway that stands twice is one of the owners only once.
+    rising = list(owners) == sorted(owners, key=order) and len(owners) == line.count("/")
+    return owners if rising else None
+
+
+def report(line):
+    """The desk's digit, the time, the runway and the canonical row of a line, or None."""
+    start, row = line[:2], line[2:]
+    if len(line) > LONG_LINE or start not in ["%d " % n for n in range(10)]:
         return None
-    places = [order(r) for r in runways]
-    return runways if all(a < b for a, b in zip(places, places[1:])) else None
+    told = answer(row)
+    if told == "5":
+        return None
+    text = told.split(" ", 2)[2]
+    return [start[0]] + text.split(" ")[:2] + [text]
 
 
 def answers(message):
     lines = cut(message)
-    runways = opened(lines[0]) if lines else None
-    if runways is None:
+    owners = opened(lines[0]) if lines else None
+    if owners is None:
         return "REFUSED 17\n"
-    out, taken = ["OPEN"], {}
-    for line in lines[1:]:
-        told = answer(line)
-        if told == "5":
-            out.append("5")
-            continue
-        text = told.split(" ", 2)[2]
-        time, runway = text.split(" ")[:2]
-        if runway not in runways:
-            out.append("18")
-        elif any(time <= t.split(" ")[0] for t in taken.get(runway, [])):
-            out.append("20")
-        else:
-            taken.setdefault(runway, []).append(text)
-            out.append("0")
-    out += [max(taken[r]) for r in runways if r in taken]
+    boards = {desk: {r: [] for r in owners if owners[r] == desk} for desk in "12"}
+    out = ["OPEN"] + [reported(boards, report(line)) for line in lines[1:]]
+    out += [max(boards[owners[r]][r]) for r in owners if boards[owners[r]][r]]
     return "\n".join(out) + "\n"
+
+
+def reported(boards, told):
+    """The answer to a report; a row that is taken joins those of its runway."""
+    if told is None:
+        return "5"
+    desk, time, runway, text = told
+    if desk not in boards:
+        return "23"
+    taken = boards[desk].get(runway)
+    if taken is None:
+        return "22" if any(runway in board for board in boards.values()) else "18"
+    if any(time <= row[:8] for row in taken):
+        return "20"
+    taken.append(text)
+    return "0"
 
 
 def behind_runway(row):
@@ -62,54 +81,123 @@ def behind_runway(row):
     return re.sub("^[^ ]+ +[^ ]+", "", row)
 
 
+# An owner's end as it must not be.
+NO_OWNERS = ["", "/", "/0", "/3", "/8", "/12", "/1/1", "/1/2", "//1", " /1", "/ 1", "/1/", "1", "/L", "/a", "/-1", "/1 "]
+
+# What may stand before a row instead of a digit and a space.
+NO_STARTS = ["", "1", "2", "12 ", "21 ", "00 ", "A ", "a ", " 1 ", " ", "1  ", "2   ", "1\t", "\t", "1,", "1/ ", "\xb2 ", "-1 ", "1 2 "]
+
+
+def seeded_opening(rng):
+    """An opening line, mostly a good one, and the runways with their owners."""
+    runways = sorted(rng.sample(sorted(RUNWAYS), rng.randint(1, 8)), key=order)
+    desks = rng.choice(["12", "12", "12", "1", "2"])
+    owners = {r: rng.choice(desks) for r in runways}
+    words = ["XQAA"] + ["%s/%s" % pair for pair in owners.items()]
+    kind = rng.random()
+    if kind < 0.05:
+        i = rng.randint(1, len(runways))
+        words[i] = runways[i - 1] + rng.choice(NO_OWNERS)
+    elif kind < 0.08:
+        # a runway twice, for the other desk or the same, or out of order
+        i = rng.randint(1, len(runways))
+        words.insert(rng.choice([i, i + 1, len(words)]), runways[i - 1] + rng.choice(["/1", "/2"]))
+    line = " ".join(words)
+    return (damaged(rng, line) if 0.08 <= kind < 0.18 else line), owners
+
+
+def seeded_sender(rng, owner):
+    """Mostly the owner, else the other desk or none."""
+    kind = rng.random()
+    if kind < 0.72:
+        return owner
+    return {"1": "2", "2": "1"}[owner] if kind < 0.87 else rng.choice("03456789")
+
+
+def seeded_line(rng, owners):
+    row = seeded_row(rng)
+    owner = rng.choice("12")
+    if rng.random() < 0.85:
+        time = "0112%02d%02d" % (rng.randint(0, 2), rng.randint(0, 9))
+        runway = rng.choice(list(owners))
+        row, owner = " ".join([time, runway]) + behind_runway(row), owners[runway]
+    line = seeded_sender(rng, owner) + " " + row
+    kind = rng.random()
+    if kind < 0.15:
+        return damaged(rng, line)
+    if kind < 0.23:
+        return rng.choice(NO_STARTS) + row
+    if kind < 0.27:
+        return rng.choice(["", "1", "1 ", "2 ", "7 ", " ", "1\t", "1 )", "2 RUBBISH", "5 RUBBISH"])
+    if kind < 0.31:
+        # right below, at and above the longest line, and the longest without its start
+        size = 4096 + rng.choice([-1, 0, 0, 1, 1, 2, 3])
+        return line[:2] + row.replace(" ", " " * (1 + size - len(line)), 1)
+    if kind < 0.33:
+        return "1 " + "A" * rng.choice([4094, 4095, 4097, 4098, 8191, 8192, 8193, 20000])
+    return line
+
+
 def seeded_input(seed):
     rng = random.Random(seed)
-    runways = sorted(rng.sample(sorted(RUNWAYS), rng.randint(1, 8)), key=order)
-    first = " ".join(["XQAA"] + runways)
-    if rng.random() < 0.15:
-        first = damaged(rng, first)
+    first, owners = seeded_opening(rng)
     lines = [first]
     for _ in range(rng.randint(0, 40)):
-        row = seeded_row(rng)
-        if rng.random() < 0.8:
-            time = "0112%02d%02d" % (rng.randint(0, 2), rng.randint(0, 9))
-            row = " ".join([time, rng.choice(runways)]) + behind_runway(row)
-        kind = rng.random()
-        if kind < 0.2:
-            row = damaged(rng, row)
-        elif kind < 0.25:
-            row = ""
-        elif kind < 0.3:
-            # right below, at and above the longest line
-            row = row.replace(" ", " " * (1 + 4096 - len(row) + rng.randint(-1, 1)), 1)
-        elif kind < 0.32:
-            row = "A" * rng.choice([4097, 4098, 8191, 8192, 8193, 20000])
-        lines.append(row)
+        if len(lines) > 1 and rng.random() < 0.15:
+            # sent again, by whichever desk
+            lines.append(rng.choice("12") + rng.choice(lines[1:])[1:])
+        else:
+            lines.append(seeded_line(rng, owners))
     ends = [rng.choice(["\n", "\n", "\r\n"]) for _ in lines]
     if rng.random() < 0.3:
         ends[-1] = rng.choice(["", "\r"])
     return "".join(l + e for l, e in zip(lines, ends))
 
 
+def stretched(line, size):
+    """A line with so many spaces before its last group but one that it has so many bytes."""
+    head, tail = line.rsplit(" ", 2)[0], line[len(line.rsplit(" ", 2)[0]) :]
+    return head + " " * (size - len(line)) + tail
+
+
 STORED = "".join(
     line + "\n"
     for line in [
-        "XQAA 07 07L 07R 18C",
-        "01120610 07L 3/5/5 75/25/NR 12/NR/NR DRY SNOW/FROST/DRY",
-        "01120640 07R  6/6/6 NR/NR/NR NR/NR/NR DRY/DRY/DRY",
-        # the same again, an earlier one, a later one
-        "01120640 07R 6/6/6 DRY/DRY/DRY",
-        "01120639 07R 6/6/6 DRY/DRY/DRY",
-        "01120641 07R 6/6/6 DRY/DRY/DRY 40\r",
-        # not on the board, no row, empty, closed, over-long
-        "01120641 08 6/6/6 DRY/DRY/DRY",
-        "01120641 19 6/6/6 DRY/DRY/DRY",
+        "XQAA 07/1 07L/1 07R/2 18C/2",
+        "1 01120610 07L 3/5/5 75/25/NR 12/NR/NR DRY SNOW/FROST/DRY",
+        "2 01120640 07R  6/6/6 NR/NR/NR NR/NR/NR DRY/DRY/DRY",
+        # the same again, by the other desk, by none; an earlier one, a later one by the other desk and by the owner
+        "2 01120640 07R 6/6/6 DRY/DRY/DRY",
+        "1 01120640 07R 6/6/6 DRY/DRY/DRY",
+        "3 01120640 07R 6/6/6 DRY/DRY/DRY",
+        "2 01120639 07R 6/6/6 DRY/DRY/DRY",
+        "1 01120641 07R 6/6/6 DRY/DRY/DRY",
+        "2 01120641 07R 6/6/6 DRY/DRY/DRY 40\r",
+        # not on the board: for either desk, and for none
+        "1 01120641 08 6/6/6 DRY/DRY/DRY",
+        "2 01120641 08 6/6/6 DRY/DRY/DRY",
+        "0 01120641 08 6/6/6 DRY/DRY/DRY",
+        # no row, empty, closed, over-long
+        "1 01120641 19 6/6/6 DRY/DRY/DRY",
+        "9 01120640 19 6/6/6 DRY/DRY/DRY",
+        "3 RUBBISH",
         "",
-        "01120641 07 6/6/6 DRY/DRY/DRY)",
-        "01120641 07 6/6/6 DRY/DRY/DRY" + " " * 5000,
-        "01120641 07" + " " * 4067 + "6/6/6 DRY/DRY/DRY",
-        "02290000 18C 5/5/5 NR/25/50 NR/NR/NR WET/FROST/FROST",
-        "02300000 18C 6/6/6 NR/NR/NR",
+        "1 01120641 07 6/6/6 DRY/DRY/DRY)",
+        "1 01120641 07 6/6/6 DRY/DRY/DRY" + " " * 5000,
+        stretched("1 01120641 07 6/6/6 DRY/DRY/DRY", 4097),
+        stretched("1 01120641 07 6/6/6 DRY/DRY/DRY", 4096),
+        # other starts
+        "12 01120642 07 6/6/6 DRY/DRY/DRY",
+        "A 01120642 07 6/6/6 DRY/DRY/DRY",
+        " 1 01120642 07 6/6/6 DRY/DRY/DRY",
+        "101120642 07 6/6/6 DRY/DRY/DRY",
+        "01120642 07 6/6/6 DRY/DRY/DRY",
+        "1  01120642 07 6/6/6 DRY/DRY/DRY",
+        "1\t01120642 07 6/6/6 DRY/DRY/DRY",
+        "1",
+        "1 ",
+        "2 02290000 18C 5/5/5 NR/25/50 NR/NR/NR WET/FROST/FROST",
+        "2 02300000 18C 6/6/6 NR/NR/NR",
     ]
 )
 

@@ -1,30 +1,54 @@
-//! The desk program: a board of runways, the answers to a whole input, and the board written as a notice.
+//! The desk program: a board of runways that two desks share, the answers to a whole input, and the board written as a
+//! notice.
 use crate::reader::{self, Record, LONGEST_MESSAGE};
 use crate::row::{Row, Runway, REPORTED};
 use crate::text::{letters, lines};
 
 pub const MOST_RUNWAYS: usize = 8;
 
-/// A board opened with numbers instead of a line, and the lines reported to it. Numbers can be wrong in ways no text
-/// is: the count need not be that of the runways, and a side need not be one of the four.
+/// What a line has before its row: the desk's digit and a space.
+const START: usize = 2;
+
+/// A runway of a board and the desk that reports it.
+#[derive(Clone, Copy, Debug, Default, PartialEq, Eq)]
+pub struct Owned {
+    pub runway: Runway,
+    pub owner: u8,
+}
+
+/// A line that a desk sends, without what the desk program has before the row and without its end, so that a CR at the
+/// end of it is text. The desk is as wide as the library takes it: no number is cut down to one that is a desk.
+#[derive(Clone, Debug)]
+pub struct Report {
+    pub desk: u32,
+    pub line: Vec<u8>,
+}
+
+/// A board opened with numbers instead of a line, and what is reported to it. Numbers can be wrong in ways no text is: the
+/// count need not be that of the runways, a side need not be one of the four, and an owner may stand alone.
 #[derive(Clone, Debug)]
 pub struct Session {
     pub aerodrome: [u8; 4],
-    pub runways: [Runway; MOST_RUNWAYS],
+    pub list: [Owned; MOST_RUNWAYS],
     pub count: u8,
-    /// Without their ends, so that a CR at the end of one is text.
-    pub lines: Vec<Vec<u8>>,
+    pub reports: Vec<Report>,
 }
 
-/// A runway of the board and the row it shows.
+/// A runway of the board, its owner and the row it shows.
 struct Place {
-    runway: Runway,
+    owned: Owned,
     shown: Option<Row>,
 }
 
 struct Board {
     aerodrome: [u8; 4],
     places: Vec<Place>,
+}
+
+/// A row and the desk that sends it, which need not be one.
+struct Sent {
+    desk: u32,
+    row: Row,
 }
 
 /// A board after its reports, and the answer to each: 0 or the refusal number.
@@ -40,7 +64,7 @@ pub fn desk(input: &[u8]) -> Vec<u8> {
 
 /// What the desk program would print, were the board of a session opened by a line.
 pub fn live(session: &Session) -> Vec<u8> {
-    printed(session.board().map(|board| board.after(&session.lines)))
+    printed(session.board().map(|board| board.after(session.reports.iter().map(Report::read))))
 }
 
 /// The board after a whole desk input as a notice: all but its aerodrome, rows and heading time is the model's. Whether
@@ -59,7 +83,7 @@ pub fn notice(desk: &[u8], model: &[u8]) -> Result<Vec<u8>, u8> {
 fn run(input: &[u8]) -> Option<Run> {
     let lines = lines(input);
     let (first, reports) = lines.split_first()?;
-    Some(Board::read(first)?.after(reports))
+    Some(Board::read(first)?.after(reports.iter().map(|line| Report::cut(line)?.read())))
 }
 
 fn printed(run: Option<Run>) -> Vec<u8> {
@@ -73,35 +97,78 @@ fn printed(run: Option<Run>) -> Vec<u8> {
     (told.join("\n") + "\n").into_bytes()
 }
 
+impl Owned {
+    /// As the opening line has it: the owner's digit behind a slash, joined to the runway.
+    fn read(group: &[u8]) -> Option<Owned> {
+        match group {
+            [runway @ .., b'/', digit @ b'0'..=b'9'] => {
+                Some(Owned { runway: Runway::read(runway, REPORTED)?, owner: digit - b'0' })
+            }
+            _ => None,
+        }
+    }
+
+    pub fn text(&self) -> String {
+        format!("{}/{}", self.runway.text(), self.owner)
+    }
+
+    fn is_listed(&self) -> bool {
+        self.runway.is_reported() && is_desk(self.owner.into())
+    }
+}
+
+fn is_desk(number: u32) -> bool {
+    number == 1 || number == 2
+}
+
+impl Report {
+    /// Cuts a line of the desk's input behind its start; none where it has no such start.
+    fn cut(line: &[u8]) -> Option<Report> {
+        match line {
+            [digit @ b'0'..=b'9', b' ', row @ ..] => Some(Report { desk: u32::from(digit - b'0'), line: row.to_vec() }),
+            _ => None,
+        }
+    }
+
+    /// None where it is refused by 5, whoever sends it. A line that would be too long with its start is not looked at.
+    fn read(&self) -> Option<Sent> {
+        if START + self.line.len() > LONGEST_MESSAGE {
+            return None;
+        }
+        Some(Sent { desk: self.desk, row: Row::read(&self.line)? })
+    }
+}
+
 impl Session {
-    /// The board that a desk input opens, and its row lines; none where it opens none.
+    /// The board that a desk input opens, and what is reported to it; none where it opens none. A line without a desk's
+    /// start is no report and changes nothing, so it is left out.
     pub fn read(input: &[u8]) -> Option<Session> {
         let lines = lines(input);
         let (first, reports) = lines.split_first()?;
         let Board { aerodrome, places } = Board::read(first)?;
-        let mut runways = [Runway::default(); MOST_RUNWAYS];
-        for (runway, place) in runways.iter_mut().zip(&places) {
-            *runway = place.runway;
+        let mut list = [Owned::default(); MOST_RUNWAYS];
+        for (owned, place) in list.iter_mut().zip(&places) {
+            *owned = place.owned;
         }
-        let lines = reports.iter().map(|line| line.to_vec()).collect();
-        Some(Session { aerodrome, runways, count: places.len() as u8, lines })
+        let reports = reports.iter().filter_map(|line| Report::cut(line)).collect();
+        Some(Session { aerodrome, list, count: places.len() as u8, reports })
     }
 
-    /// The list is wrong too if something stands past its count, be it a side alone.
+    /// The list is wrong too if something stands past its count, be it a side or an owner alone.
     fn board(&self) -> Option<Board> {
         let count = usize::from(self.count);
-        let used = self.runways.get(..count)?;
-        let zeros = self.runways[count..].iter().all(|&runway| runway == Runway::default());
+        let used = self.list.get(..count)?;
+        let zeros = self.list[count..].iter().all(|&owned| owned == Owned::default());
         Board::open(&self.aerodrome, used).filter(|_| zeros)
     }
 }
 
 impl Board {
-    /// Judges what came from a line and what came as numbers alike.
-    fn open(aerodrome: &[u8], runways: &[Runway]) -> Option<Board> {
-        let rising = runways.windows(2).all(|pair| pair[0] < pair[1]);
-        let listed = (1..=MOST_RUNWAYS).contains(&runways.len()) && runways.iter().all(Runway::is_reported) && rising;
-        let places = runways.iter().map(|&runway| Place { runway, shown: None }).collect();
+    /// Judges what came from a line and what came as numbers alike. The owners have no part in the rising.
+    fn open(aerodrome: &[u8], list: &[Owned]) -> Option<Board> {
+        let rising = list.windows(2).all(|pair| pair[0].runway < pair[1].runway);
+        let listed = (1..=MOST_RUNWAYS).contains(&list.len()) && list.iter().all(Owned::is_listed) && rising;
+        let places = list.iter().map(|&owned| Place { owned, shown: None }).collect();
         Some(Board { aerodrome: letters(aerodrome)?, places }).filter(|_| listed)
     }
 
@@ -109,22 +176,25 @@ impl Board {
     fn read(line: &[u8]) -> Option<Board> {
         let mut groups = line.split(|&byte| byte == b' ');
         let aerodrome = groups.next()?;
-        let runways = groups.map(|group| Runway::read(group, REPORTED)).collect::<Option<Vec<_>>>()?;
-        Board::open(aerodrome, &runways)
+        let list = groups.map(Owned::read).collect::<Option<Vec<_>>>()?;
+        Board::open(aerodrome, &list)
     }
 
-    fn after(mut self, reports: &[impl AsRef<[u8]>]) -> Run {
-        let answers = reports.iter().map(|line| self.report(line.as_ref()).err().unwrap_or(0)).collect();
+    /// What is no report, or no row, is answered by 5 before the board is asked.
+    fn after(mut self, reports: impl Iterator<Item = Option<Sent>>) -> Run {
+        let answers = reports.map(|sent| sent.ok_or(5).and_then(|sent| self.take(sent)).err().unwrap_or(0)).collect();
         Run { board: self, answers }
     }
 
-    /// Takes a report that is later than the row shown, or answers the refusal number.
-    fn report(&mut self, line: &[u8]) -> Result<(), u8> {
-        if line.len() > LONGEST_MESSAGE {
-            return Err(5);
+    /// Takes a row of the sender's own runway that is later than the one shown, or answers the refusal number.
+    fn take(&mut self, Sent { desk, row }: Sent) -> Result<(), u8> {
+        if !is_desk(desk) {
+            return Err(23);
         }
-        let row = Row::read(line).ok_or(5)?;
-        let place = self.places.iter_mut().find(|place| place.runway == row.runway).ok_or(18)?;
+        let place = self.places.iter_mut().find(|place| place.owned.runway == row.runway).ok_or(18)?;
+        if u32::from(place.owned.owner) != desk {
+            return Err(22);
+        }
         if place.shown.as_ref().map_or(false, |shown| row.time <= shown.time) {
             return Err(20);
         }
@@ -148,7 +218,15 @@ mod tests {
 
     #[test]
     fn opening() {
-        for good in ["XQAA 07", "XQAA 07\r\n", "XQAA 07 07L 07C 07R 08 09 10 18R\n", "ABCD 01L 18\n"] {
+        for good in [
+            "XQAA 07/1",
+            "XQAA 07/2\r\n",
+            "XQAA 07/1 07L/2 07C/1 07R/2 08/1 09/2 10/2 18R/1\n",
+            "ABCD 01L/2 18/1\n",
+            // One desk may own all runways.
+            "XQAA 07/1 07L/1 08/1\n",
+            "XQAA 07/2 07L/2 08/2\n",
+        ] {
             assert_eq!(told(good), "OPEN\n", "{good}");
         }
         for wrong in [
@@ -156,55 +234,144 @@ mod tests {
             "\n",
             "XQAA",
             "XQAA\n",
-            "XQAA  07\n",
-            " XQAA 07\n",
-            "XQAA 07 \n",
-            "XQAA 07)\n",
-            "XQAA 07\r",
-            "XQA 07\n",
-            "XQAA 19\n",
-            "XQAA 07 07\n",
-            "XQAA 07L 07\n",
-            "XQAA 08 07\n",
-            "XQAA 01 02 03 04 05 06 07 08 09\n",
-            "XQA1 07\n",
+            "XQAA  07/1\n",
+            " XQAA 07/1\n",
+            "XQAA 07/1 \n",
+            "XQAA 07/1)\n",
+            "XQAA 07/1\r",
+            "XQA 07/1\n",
+            "XQAA 19/1\n",
+            "XQAA 08/1 07/1\n",
+            "XQAA 01/1 02/1 03/1 04/1 05/1 06/1 07/1 08/1 09/1\n",
+            "XQA1 07/1\n",
+            "XQAA/1 07/1\n",
         ] {
             assert_eq!(told(wrong), "REFUSED 17\n", "{wrong}");
         }
-        assert_eq!(told(&format!("XQAA 07{}\n", " ".repeat(5000))), "REFUSED 17\n");
+        assert_eq!(told(&format!("XQAA 07/1{}\n", " ".repeat(5000))), "REFUSED 17\n");
+    }
+
+    #[test]
+    fn an_owner_is_joined_to_each_runway() {
+        let ends =
+            ["", " /1", "/ 1", "/", "/0", "/3", "/9", "/12", "/01", "/1/1", "/1/", "//1", "1", " 1", "/A", "/1L", "-1"];
+        for end in ends {
+            assert_eq!(told(&format!("XQAA 07{end}\n")), "REFUSED 17\n", "{end}");
+            assert_eq!(told(&format!("XQAA 07{end} 08/1\n")), "REFUSED 17\n", "{end}");
+            assert_eq!(told(&format!("XQAA 06/2 07{end}\n")), "REFUSED 17\n", "{end}");
+        }
+    }
+
+    #[test]
+    fn rising_is_judged_by_the_runway_alone() {
+        for wrong in ["07/1 07/2", "07/2 07/1", "07/1 07/1", "07L/1 07/2", "08/1 07/2"] {
+            assert_eq!(told(&format!("XQAA {wrong}\n")), "REFUSED 17\n", "{wrong}");
+        }
+        assert_eq!(told("XQAA 07/2 07L/1 08/2 09/1\n"), "OPEN\n");
+    }
+
+    /// A row of a runway, which `RIGHT` is too, but as the desk prints it.
+    const ROW: &str = "01120640 07R 6/6/6 DRY/DRY/DRY";
+
+    /// What a board of 07L, desk 1, and 07R, desk 2, answers to the last of some lines.
+    fn last(lines: &[&str]) -> String {
+        let told = told(&format!("XQAA 07L/1 07R/2\n{}\n", lines.join("\n")));
+        told.lines().nth(lines.len()).unwrap_or_default().to_string()
     }
 
     #[test]
     fn reports() {
-        let row = "01120640 07R 6/6/6 DRY/DRY/DRY";
         // The same report twice: the second is 20; an earlier one too; a later one is shown.
-        assert_eq!(told(&format!("XQAA 07R\n{row}\n{row}\n")), format!("OPEN\n0\n20\n{row}\n"));
-        let earlier = row.replace("0640", "0639");
-        let later = row.replace("0640", "0641");
-        assert_eq!(told(&format!("XQAA 07R\n{row}\n{earlier}\n{later}")), format!("OPEN\n0\n20\n0\n{later}\n"));
-        assert_eq!(told(&format!("XQAA 07L\n{row}\n\n{row})\n)\n")), "OPEN\n18\n5\n5\n5\n");
+        assert_eq!(told(&format!("XQAA 07R/1\n1 {ROW}\n1 {ROW}\n")), format!("OPEN\n0\n20\n{ROW}\n"));
+        let earlier = ROW.replace("0640", "0639");
+        let later = ROW.replace("0640", "0641");
+        let input = format!("XQAA 07R/2\n2 {ROW}\n2 {earlier}\n2 {later}");
+        assert_eq!(told(&input), format!("OPEN\n0\n20\n0\n{later}\n"));
+        let input = format!("XQAA 07L/1\n1 {ROW}\n1 \n1 {ROW})\n1 )\n)\n\n");
+        assert_eq!(told(&input), "OPEN\n18\n5\n5\n5\n5\n5\n");
+    }
+
+    #[test]
+    fn a_line_starts_with_a_digit_and_a_space() {
+        for start in [
+            "12 ", "22 ", "02 ", "A ", "a ", " 2 ", "2", "", " ", "2  ", "2   ", "2\t", "\t2 ", "2\t ", "2/ ", "/ ",
+            ": ", "\u{2} ",
+        ] {
+            assert_eq!(last(&[&format!("{start}{ROW}")]), "5", "{start:?}");
+        }
+        for alone in ["1", "2", "3", "1 ", "2 ", "3 ", "2  ", "", " ", "\t", "12", "2 2"] {
+            assert_eq!(last(&[alone]), "5", "{alone:?}");
+        }
+        assert_eq!(last(&[&format!("2 {ROW}")]), "0");
+        assert_eq!(last(&[&format!("2 {ROW}\r")]), "0");
+        assert_eq!(last(&[&format!("2 2 {ROW}")]), "5");
+        // At the end of the input a CR without LF is text, behind a row as behind a start.
+        for line in [format!("2 {ROW}\r"), "2 \r".to_string(), "2\r".to_string()] {
+            assert_eq!(told(&format!("XQAA 07R/2\n{line}")), "OPEN\n5\n", "{line:?}");
+        }
+    }
+
+    #[test]
+    fn no_row_comes_before_no_desk() {
+        for line in ["3 RUBBISH", "0 RUBBISH", "9 01120640 19 6/6/6 DRY/DRY/DRY", "3 ", "0  ", "1 RUBBISH"] {
+            assert_eq!(last(&[line]), "5", "{line}");
+        }
+        assert_eq!(last(&[&format!("3  {ROW}")]), "5");
+    }
+
+    #[test]
+    fn no_desk_comes_before_all_that_the_board_judges() {
+        let elsewhere = ROW.replace("07R", "18");
+        for digit in [0, 3, 4, 5, 6, 7, 8, 9] {
+            // Taken from the owner; not on the board; not later.
+            assert_eq!(last(&[&format!("{digit} {ROW}")]), "23");
+            assert_eq!(last(&[&format!("{digit} {elsewhere}")]), "23");
+            assert_eq!(last(&[&format!("2 {ROW}"), &format!("{digit} {ROW}")]), "23");
+        }
+    }
+
+    #[test]
+    fn the_board_judges_by_18_then_22_then_20() {
+        let elsewhere = ROW.replace("07R", "18");
+        assert_eq!(last(&[&format!("1 {elsewhere}")]), "18");
+        assert_eq!(last(&[&format!("2 {elsewhere}")]), "18");
+        assert_eq!(last(&[&format!("1 {ROW}")]), "22");
+        // A report that was taken, sent again by the other desk and by the same; then a later one of both.
+        let (taken, other) = (format!("2 {ROW}"), format!("1 {ROW}"));
+        assert_eq!(last(&[&taken, &other]), "22");
+        assert_eq!(last(&[&taken, &taken]), "20");
+        assert_eq!(last(&[&taken, &other.replace("0640", "0641")]), "22");
+        assert_eq!(last(&[&taken, &other.replace("0640", "0641"), &taken.replace("0640", "0641")]), "0");
+    }
+
+    #[test]
+    fn a_refused_desk_changes_nothing() {
+        let later = ROW.replace("0640", "0641");
+        let input = format!("XQAA 07L/1 07R/2\n1 {later}\n3 {later}\n2{later}\n2 {ROW}\n1 {later}\n");
+        assert_eq!(told(&input), format!("OPEN\n22\n23\n5\n0\n22\n{ROW}\n"));
     }
 
     #[test]
     fn long_lines() {
-        let of_length = |length: usize| {
-            let row = "01120640 07R 6/6/6 DRY/DRY/DRY";
-            row.replacen(' ', &" ".repeat(1 + length - row.len()), 1)
+        // The digit and the space are counted; CR LF is not.
+        let stretched = |length: usize| {
+            let line = format!("1 {ROW}");
+            line.replace(" 07R", &format!("{}07R", " ".repeat(1 + length - line.len())))
         };
-        let row = "01120640 07R 6/6/6 DRY/DRY/DRY";
-        assert_eq!(told(&format!("XQAA 07R\n{}\r\n", of_length(4096))), format!("OPEN\n0\n{row}\n"));
-        assert_eq!(told(&format!("XQAA 07R\n{}\n{row}\n", of_length(4097))), format!("OPEN\n5\n0\n{row}\n"));
+        assert_eq!(told(&format!("XQAA 07R/1\n{}\r\n", stretched(4096))), format!("OPEN\n0\n{ROW}\n"));
+        assert_eq!(told(&format!("XQAA 07R/1\n{}\n1 {ROW}\n", stretched(4097))), format!("OPEN\n5\n0\n{ROW}\n"));
     }
 
     #[test]
-    fn rows_are_shown_in_board_order_and_canonical() {
-        let input = "XQAA 07L 07R\n01120640 07R  6/6/6 NR/NR/NR NR/NR/NR DRY/DRY/DRY\n01120610 07L 6/6/6 NR/NR/NR\n";
+    fn rows_are_shown_in_board_order_bare_and_canonical() {
+        let input =
+            "XQAA 07L/2 07R/1\n1 01120640 07R  6/6/6 NR/NR/NR NR/NR/NR DRY/DRY/DRY\n2 01120610 07L 6/6/6 NR/NR/NR\n";
         assert_eq!(told(input), "OPEN\n0\n0\n01120610 07L 6/6/6 NR/NR/NR\n01120640 07R 6/6/6 DRY/DRY/DRY\n");
     }
 
-    const BOARD: &str = "XQAA 07L 07R 18C\n";
-    const LEFT: &str = "01120610 07L 3/5/5 75/25/NR 12/NR/NR DRY SNOW/FROST/DRY\n";
-    const RIGHT: &str = "01120640 07R  6/6/6 NR/NR/NR NR/NR/NR DRY/DRY/DRY\n";
+    const BOARD: &str = "XQAA 07L/1 07R/2 18C/1\n";
+    const LEFT: &str = "1 01120610 07L 3/5/5 75/25/NR 12/NR/NR DRY SNOW/FROST/DRY\n";
+    const RIGHT: &str = "2 01120640 07R  6/6/6 NR/NR/NR NR/NR/NR DRY/DRY/DRY\n";
     const MODEL: &str = "DD  QQQQAAAA ZZZZBBBB\r\n\
                          311200 RRRRCCCC\n\
                          SWZZ0123 WXYZ 12312359\n\
@@ -228,8 +395,10 @@ mod tests {
 
     #[test]
     fn a_notice_has_the_rows_of_the_board_and_the_rest_of_the_model() {
-        // Reported in the other order; between them reports that are refused, by 5, 18 and 20.
-        let desk = format!("{BOARD}{RIGHT}XQAA\n01130000 18 6/6/6 NR/NR/NR\n{RIGHT}{LEFT}");
+        // Reported in the other order; between them reports that are refused, by 5, 18, 20, 22 and 23.
+        let wrong =
+            "XQAA\n1 01130000 18 6/6/6 NR/NR/NR\n1 01130000 07R 6/6/6 NR/NR/NR\n3 01130000 18C 6/6/6 NR/NR/NR\n";
+        let desk = format!("{BOARD}{RIGHT}{wrong}{RIGHT}{LEFT}");
         let text = "DD QQQQAAAA ZZZZBBBB\n\
                     311200 RRRRCCCC\n\
                     SWZZ0123 XQAA 01120640\n\
@@ -263,12 +432,16 @@ mod tests {
     fn the_heading_time_of_a_notice_is_the_latest_of_its_rows() {
         let third = |desk: &str| noticed(desk, MODEL).map(|text| text.lines().nth(2).unwrap_or_default().to_string());
         let heading = |time: &str| Ok(format!("SWZZ0123 XQAA {time}"));
-        let late_left = "12010000 07L 6/6/6 NR/NR/NR\n";
-        let early_right = "01310000 07R 6/6/6 NR/NR/NR\n";
+        let late_left = "1 12010000 07L 6/6/6 NR/NR/NR\n";
+        let early_right = "2 01310000 07R 6/6/6 NR/NR/NR\n";
         // Neither the last row's nor the last reported one's, and never a refused report's.
         assert_eq!(third(&format!("{BOARD}{late_left}{early_right}")), heading("12010000"));
         assert_eq!(third(&format!("{BOARD}{late_left}{LEFT}{early_right}")), heading("12010000"));
-        assert_eq!(third(&format!("{BOARD}{early_right}12010000 18 6/6/6 NR/NR/NR\n")), heading("01310000"));
+        for refused in
+            ["1 12010000 18 6/6/6 NR/NR/NR\n", "2 12010000 07L 6/6/6 NR/NR/NR\n", "12010000 07R 6/6/6 NR/NR/NR\n"]
+        {
+            assert_eq!(third(&format!("{BOARD}{early_right}{refused}")), heading("01310000"));
+        }
     }
 
     #[test]
@@ -277,14 +450,16 @@ mod tests {
         let refused = MODEL.replace("WXYZ\n12312359", "WXYZ\n12312358");
         let too_long = MODEL.replacen(' ', &" ".repeat(5000), 1);
         for model in [&refused, &too_long, "", "XQAA"] {
-            assert_eq!(noticed("XQAA 07R 07L\n", model), Err(17));
-            assert_eq!(noticed(&format!("XQAA  07R\n{RIGHT}"), model), Err(17));
+            assert_eq!(noticed("XQAA 07R/1 07L/1\n", model), Err(17));
+            assert_eq!(noticed(&format!("XQAA 07R\n{RIGHT}"), model), Err(17));
             assert_eq!(noticed(BOARD, model), Err(21));
-            assert_eq!(noticed(&format!("{BOARD}01120640 07 6/6/6 DRY/DRY/DRY\n)\n"), model), Err(21));
+            assert_eq!(noticed(&format!("{BOARD}1 01120640 07 6/6/6 DRY/DRY/DRY\n)\n"), model), Err(21));
+            assert_eq!(noticed(&format!("{BOARD}{}", LEFT.replacen('1', "2", 1)), model), Err(21));
+            assert_eq!(noticed(&format!("{BOARD}{}", LEFT.replacen('1', "0", 1)), model), Err(21));
             assert_eq!(noticed(&good, model), Err(13));
         }
         assert_eq!(noticed("", MODEL), Err(17));
-        assert_eq!(noticed(&format!("XQAA 07R 07L\n{RIGHT}"), MODEL), Err(17));
+        assert_eq!(noticed(&format!("XQAA 07R/2 07L/1\n{RIGHT}"), MODEL), Err(17));
         assert_eq!(noticed(BOARD, MODEL), Err(21));
     }
 
@@ -305,10 +480,14 @@ mod tests {
         assert!(reader::same(example.as_bytes(), text.as_bytes()));
     }
 
+    fn owned(number: u8, side: u8, owner: u8) -> Owned {
+        Owned { runway: Runway { number, side }, owner }
+    }
+
     fn session() -> Session {
-        let mut runways = [Runway::default(); MOST_RUNWAYS];
-        runways[..3].copy_from_slice(&[7, 8, 18].map(|number| Runway { number, side: 1 }));
-        Session { aerodrome: *b"XQAA", runways, count: 3, lines: Vec::new() }
+        let mut list = [Owned::default(); MOST_RUNWAYS];
+        list[..3].copy_from_slice(&[owned(7, 1, 1), owned(8, 1, 2), owned(18, 1, 1)]);
+        Session { aerodrome: *b"XQAA", list, count: 3, reports: Vec::new() }
     }
 
     fn with(change: impl Fn(&mut Session)) -> String {
@@ -317,39 +496,41 @@ mod tests {
         String::from_utf8_lossy(&live(&session)).into_owned()
     }
 
+    fn all_places(session: &mut Session) {
+        session.list = [11, 12, 13, 14, 15, 16, 17, 18].map(|number| owned(number, 0, 1 + number % 2));
+        session.count = 8;
+    }
+
     #[test]
     fn opening_with_numbers() {
         assert_eq!(with(|_| ()), "OPEN\n");
-        assert_eq!(with(|session| session.runways[1] = Runway { number: 7, side: 2 }), "OPEN\n");
-        assert_eq!(with(|session| session.runways[0] = Runway { number: 1, side: 0 }), "OPEN\n");
-        assert_eq!(with(|session| session.runways[2].side = 3), "OPEN\n");
-        let all = |session: &mut Session| {
-            session.runways = [11, 12, 13, 14, 15, 16, 17, 18].map(|number| Runway { number, side: 0 });
-            session.count = 8;
-        };
-        assert_eq!(with(all), "OPEN\n");
+        assert_eq!(with(|session| session.list[1] = owned(7, 2, 1)), "OPEN\n");
+        assert_eq!(with(|session| session.list[0] = owned(1, 0, 2)), "OPEN\n");
+        assert_eq!(with(|session| session.list[2].runway.side = 3), "OPEN\n");
+        assert_eq!(with(|session| session.list[1].owner = 1), "OPEN\n");
+        assert_eq!(with(all_places), "OPEN\n");
         let wrong: [&dyn Fn(&mut Session); 19] = [
             &|session| session.aerodrome[0] = b'@',
             &|session| session.aerodrome[1] = b'[',
             &|session| session.aerodrome[2] = b'a',
             &|session| session.aerodrome[3] = 0,
-            &|session| session.runways.swap(0, 1),
-            &|session| session.runways[1] = session.runways[0],
-            &|session| session.runways[1] = Runway { number: 7, side: 0 },
-            &|session| session.runways[0].number = 0,
-            &|session| session.runways[2].number = 19,
-            &|session| session.runways[2].side = 4,
-            &|session| session.runways[0].side = 255,
+            &|session| session.list.swap(0, 1),
+            &|session| session.list[1] = Owned { owner: 2, ..session.list[0] },
+            &|session| session.list[1].runway = Runway { number: 7, side: 0 },
+            &|session| session.list[0].runway.number = 0,
+            &|session| session.list[2].runway.number = 19,
+            &|session| session.list[2].runway.side = 4,
+            &|session| session.list[0].runway.side = 255,
             // The count says less or more than there is.
             &|session| session.count = 0,
             &|session| session.count = 2,
             &|session| session.count = 4,
-            &|session| *session = Session { runways: Default::default(), count: 0, ..session.clone() },
-            &|session| session.runways[3] = Runway { number: 18, side: 2 },
-            &|session| session.runways[7].number = 1,
-            &|session| session.runways[7].side = 1,
+            &|session| *session = Session { list: Default::default(), count: 0, ..session.clone() },
+            &|session| session.list[3] = owned(18, 2, 2),
+            &|session| session.list[7].runway.number = 1,
+            &|session| session.list[7].runway.side = 1,
             &|session| {
-                all(session);
+                all_places(session);
                 session.count = 9;
             },
         ];
@@ -358,24 +539,77 @@ mod tests {
         }
         // Refused before any row is looked at.
         let reported = |session: &mut Session| {
-            session.lines.push(b"01120640 07L 6/6/6 DRY/DRY/DRY".to_vec());
+            session.reports.push(report(1, "01120640 07L 6/6/6 DRY/DRY/DRY"));
             session.count = 255;
         };
         assert_eq!(with(reported), "REFUSED 17\n");
     }
 
     #[test]
+    fn owners_as_numbers() {
+        for owner in [0, 3, 4, b'1', b'2', 129, 255] {
+            for place in 0..3 {
+                assert_eq!(with(|session| session.list[place].owner = owner), "REFUSED 17\n", "{owner} at {place}");
+            }
+        }
+        // Past the count an owner alone is something that stands there, be it a desk.
+        for owner in [1, 2, 3, 255] {
+            for place in 3..8 {
+                assert_eq!(with(|session| session.list[place].owner = owner), "REFUSED 17\n", "{owner} at {place}");
+            }
+        }
+    }
+
+    fn report(desk: u32, line: &str) -> Report {
+        Report { desk, line: line.as_bytes().to_vec() }
+    }
+
+    #[test]
     fn live_reports() {
-        let lines = [
-            "01120640 18L  6/6/6 NR/NR/NR NR/NR/NR DRY/DRY/DRY",
-            "01120640 18L 6/6/6 DRY/DRY/DRY",
-            "01120610 07L 6/6/6 NR/NR/NR",
-            "01120610 07 6/6/6 NR/NR/NR",
-            "01120641 18L 6/6/6 DRY/DRY/DRY\r",
-            "",
+        let reports = [
+            report(1, "01120640 18L  6/6/6 NR/NR/NR NR/NR/NR DRY/DRY/DRY"),
+            report(1, "01120640 18L 6/6/6 DRY/DRY/DRY"),
+            report(2, "01120640 18L 6/6/6 DRY/DRY/DRY"),
+            report(1, "01120610 07L 6/6/6 NR/NR/NR"),
+            report(1, "01120610 07 6/6/6 NR/NR/NR"),
+            report(1, "01120641 18L 6/6/6 DRY/DRY/DRY\r"),
+            report(1, ""),
+            report(1, "1 01120641 18L 6/6/6 DRY/DRY/DRY"),
+            report(0, "01120641 18L 6/6/6 DRY/DRY/DRY"),
         ];
-        let told = with(|session| session.lines = lines.map(|line| line.as_bytes().to_vec()).to_vec());
+        let told = with(|session| session.reports = reports.to_vec());
         let shown = "01120610 07L 6/6/6 NR/NR/NR\n01120640 18L 6/6/6 DRY/DRY/DRY\n";
-        assert_eq!(told, format!("OPEN\n0\n20\n0\n18\n5\n5\n{shown}"));
+        assert_eq!(told, format!("OPEN\n0\n20\n22\n0\n18\n5\n5\n5\n23\n{shown}"));
+    }
+
+    #[test]
+    fn a_sender_is_not_cut_down_to_a_desk() {
+        for desk in [0, 3, 9, 10, 255, 256, 257, 258, 513, 514, 65_537, 65_538, 0x0100_0001, 0x8000_0002, u32::MAX] {
+            for line in
+                ["01120640 07L 6/6/6 DRY/DRY/DRY", "01120640 08L 6/6/6 DRY/DRY/DRY", "01120640 01 6/6/6 DRY/DRY/DRY"]
+            {
+                assert_eq!(with(|session| session.reports.push(report(desk, line))), "OPEN\n23\n", "{desk}");
+            }
+            assert_eq!(with(|session| session.reports.push(report(desk, "RUBBISH"))), "OPEN\n5\n", "{desk}");
+        }
+    }
+
+    #[test]
+    fn a_live_line_is_as_long_as_the_desk_has_room_for_behind_its_start() {
+        let row = "01120640 07L 6/6/6 DRY/DRY/DRY";
+        let of_length = |length: usize| row.replacen(' ', &" ".repeat(1 + length - row.len()), 1);
+        let told = |length| with(|session| session.reports.push(report(1, &of_length(length))));
+        assert_eq!(told(4094), format!("OPEN\n0\n{row}\n"));
+        assert_eq!(told(4095), "OPEN\n5\n");
+    }
+
+    #[test]
+    fn a_session_is_read_from_a_desk_input() {
+        let session = Session::read(format!("{BOARD}{RIGHT}XQAA\n3 X\r\n1 ").as_bytes()).expect("a board");
+        assert_eq!(session.list[..3], [owned(7, 1, 1), owned(7, 3, 2), owned(18, 2, 1)]);
+        assert_eq!((session.aerodrome, session.count, session.list[3]), (*b"XQAA", 3, Owned::default()));
+        let reports: Vec<_> = session.reports.iter().map(|report| (report.desk, report.line.len())).collect();
+        assert_eq!(reports, [(2, RIGHT.len() - 3), (3, 1), (1, 0)]);
+        assert!(Session::read(b"XQAA 07L/1 07R\n").is_none());
     }
 }

@@ -1,7 +1,7 @@
 //! Counts by refusal number, and the first differences with their bytes.
 
 const SHOWN: usize = 10;
-const NUMBERS: usize = 22;
+const NUMBERS: usize = 24;
 
 pub struct Report {
     counts: [usize; NUMBERS],

@@ -2,7 +2,7 @@
 use std::io;
 
 use crate::assess::{agreement, assess};
-use crate::desk::{desk, live, notice};
+use crate::desk::{self, desk, live, notice};
 use crate::generate::{self, Rng, Sample};
 use crate::models;
 use crate::reader::{read, same, write, Record, LONGEST_MESSAGE};
@@ -95,7 +95,8 @@ fn board_notice(rng: &mut Rng, report: &mut Report) {
     }
 }
 
-/// A board that opens with numbers tells what the desk tells of the same board and lines.
+/// A board that opens with numbers tells what the desk tells of the same board and lines. A number that no digit can say
+/// is no desk, as 9 is none.
 fn session(rng: &mut Rng, report: &mut Report) {
     let session = generate::session(rng);
     let told = live(&session);
@@ -103,18 +104,25 @@ fn session(rng: &mut Rng, report: &mut Report) {
         report.count(17);
         return;
     }
-    report.count(0);
-    let mut input = Vec::new();
-    let first = generate::opening_line(&session.aerodrome, &session.runways[..usize::from(session.count)]);
-    for line in std::iter::once(&first).chain(&session.lines) {
-        input.extend(line);
+    let mut input = generate::opening_line(&session.aerodrome, &session.list[..usize::from(session.count)]);
+    for sent in session.reports {
         // Not LF alone, before which a CR of the line would be no text.
         input.extend_from_slice(b"\r\n");
+        input.extend(generate::started(&desk::Report { desk: sent.desk.min(9), ..sent }));
     }
+    input.extend_from_slice(b"\r\n");
     let expected = desk(&input);
+    count_answers(&told, report);
     if told != expected {
         report.differ("session", &input, &expected.escape_ascii().to_string(), &told.escape_ascii().to_string());
     }
+}
+
+/// Counts what the desk answered to each report: an answer has one or two digits, and any row is longer.
+fn count_answers(printed: &[u8], report: &mut Report) {
+    let lines = lines(printed);
+    let answers = lines.iter().skip(1).filter(|line| line.len() <= 2);
+    answers.filter_map(|line| std::str::from_utf8(line).ok()?.parse().ok()).for_each(|answer| report.count(answer));
 }
 
 /// Rows.py's own rows, and generated ones.
@@ -122,7 +130,7 @@ fn row_model(rng: &mut Rng, count: usize, report: &mut Report) -> io::Result<()>
     row_lines("its own", &models::lines()?, report)?;
     let mut input = Vec::new();
     for _ in 0..count {
-        input.extend(generate::row_line(rng, &[]));
+        input.extend(generate::any_row_line(rng));
         input.extend_from_slice(if rng.chance(20) { b"\r\n" } else { b"\n" });
     }
     row_lines("generated", &input, report)
@@ -155,11 +163,13 @@ fn desk_model(rng: &mut Rng, count: usize, report: &mut Report) -> io::Result<()
         let told = desk(&input);
         let expected = models::answers("desk.py", input.clone())?;
         opened += usize::from(told.starts_with(b"OPEN"));
+        count_answers(&told, report);
         if told != expected {
             report.differ("desk", &input, &expected.escape_ascii().to_string(), &told.escape_ascii().to_string());
         }
     }
     println!("desk.py: {count} inputs, {opened} of them opened a board");
+    report.print_counts("answers of the desk");
     Ok(())
 }
 
@@ -185,14 +195,14 @@ pub fn run(count: usize, seed: u64) -> bool {
     (0..count).for_each(|_| numbers(&mut rng, &mut report));
     report.print_counts("rows as numbers");
     let asked = row_model(&mut rng, count / 4, &mut report)
-        .and_then(|()| desk_model(&mut rng, (count / 1000).clamp(1, 300), &mut report));
+        .and_then(|()| desk_model(&mut rng, (count / 200).clamp(1, 300), &mut report));
     if let Err(error) = &asked {
         println!("the models in Python were not asked: {error}");
     }
     (0..tenth).for_each(|_| board_notice(&mut rng, &mut report));
     report.print_counts("notices of a board");
     (0..tenth).for_each(|_| session(&mut rng, &mut report));
-    report.print_counts("boards opened with numbers");
+    report.print_counts("answers of boards opened with numbers");
     println!(
         "{count} messages, {tenth} pairs, {count} observations, {count} rows, {} differences",
         report.differences()

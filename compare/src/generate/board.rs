@@ -1,8 +1,11 @@
 //! Boards that are written as notices, and boards that are opened with numbers.
-use super::desk::{desk_input, ended, opening, opening_line, row_lines};
+use super::desk::{desk_input, ended, opening, opening_line, report_lines, reports};
 use super::{message, record, typing, Rng};
-use crate::desk::{Session, MOST_RUNWAYS};
+use crate::desk::{Owned, Session, MOST_RUNWAYS};
 use crate::row::Runway;
+
+/// Senders that are no desk, among them what would be one if it were cut down to fewer bits.
+const NO_DESKS: [u32; 14] = [0, 3, 9, 49, 50, 255, 256, 257, 258, 65_537, 65_538, 0x0100_0001, 0x8000_0002, u32::MAX];
 
 /// A desk input, and the message that a notice of its board is modelled on. Most of them give one; 17, 21 and 13 are
 /// common, and so are two of them at once, in which their order shows.
@@ -10,9 +13,9 @@ pub fn board_notice(rng: &mut Rng) -> (Vec<u8>, Vec<u8>) {
     let desk = if rng.chance(50) {
         desk_input(rng)
     } else {
-        let (aerodrome, runways) = opening(rng);
-        let reports = row_lines(rng, &runways);
-        ended(rng, opening_line(&aerodrome, &runways), reports)
+        let (aerodrome, list) = opening(rng);
+        let reports = report_lines(rng, &list);
+        ended(rng, opening_line(&aerodrome, &list), reports)
     };
     let model = if rng.chance(65) {
         let record = record(rng);
@@ -23,15 +26,15 @@ pub fn board_notice(rng: &mut Rng) -> (Vec<u8>, Vec<u8>) {
     (desk, model)
 }
 
-/// A board opened with numbers, every fourth time wrong ones, and lines for its runways.
+/// A board opened with numbers, every fourth time wrong ones, and reports of its runways.
 pub fn session(rng: &mut Rng) -> Session {
-    let (aerodrome, list) = opening(rng);
-    let lines = row_lines(rng, &list);
-    let mut runways = [Runway::default(); MOST_RUNWAYS];
-    for (place, &runway) in runways.iter_mut().zip(&list) {
-        *place = runway;
+    let (aerodrome, opened) = opening(rng);
+    let reports = reports(rng, &opened, &NO_DESKS);
+    let mut list = [Owned::default(); MOST_RUNWAYS];
+    for (place, &owned) in list.iter_mut().zip(&opened) {
+        *place = owned;
     }
-    let mut session = Session { aerodrome, runways, count: list.len() as u8, lines };
+    let mut session = Session { aerodrome, list, count: opened.len() as u8, reports };
     if rng.chance(25) {
         with_wrong_numbers(rng, &mut session);
     }
@@ -42,22 +45,24 @@ pub fn session(rng: &mut Rng) -> Session {
 fn with_wrong_numbers(rng: &mut Rng, session: &mut Session) {
     let used = usize::from(session.count).min(MOST_RUNWAYS);
     let (one, other) = (rng.below(used), rng.below(used));
-    let runways = &mut session.runways;
-    match rng.below(10) {
+    let past = rng.pick(&[used, used, MOST_RUNWAYS - 1]).min(MOST_RUNWAYS - 1);
+    let list = &mut session.list;
+    match rng.below(13) {
         0 => session.aerodrome[rng.below(4)] = rng.pick(b"@[AZaz09 \n\x00\xc1\xff"),
-        1 => runways.swap(one, other),
-        2 => runways[one] = runways[other],
-        3 => runways[one].side = rng.pick(&[0, 1, 2, 3, 4, 5, 255]),
-        4 => runways[one].number = rng.pick(&[0, 1, 18, 19, 36, 255]),
-        5 => runways[0].number = 0,
-        6 => runways[used - 1].number = 19,
+        1 => list.swap(one, other),
+        2 => list[one].runway = list[other].runway,
+        3 => list[one].runway.side = rng.pick(&[0, 1, 2, 3, 4, 5, 255]),
+        4 => list[one].runway.number = rng.pick(&[0, 1, 18, 19, 36, 255]),
+        5 => list[0].runway.number = 0,
+        6 => list[used - 1].runway.number = 19,
         // A count that is not the list's: less leaves runways past it, more takes zeros in.
         7 => session.count = rng.pick(&[0, 1, session.count - 1, session.count + 1, 8, 9, 10, 255]),
-        8 => (session.count, *runways) = (0, Default::default()),
-        // Past the count, be it next in order or only a side.
+        8 => (session.count, *list) = (0, Default::default()),
+        9 | 10 => list[one].owner = rng.pick(&[0, 1, 2, 3, 4, b'1', b'2', 129, 254, 255]),
+        // Past the count, be it next in order or only a side or an owner.
+        11 => list[past].owner = rng.pick(&[1, 2, 3, 255]),
         _ => {
-            let past = rng.pick(&[used, used, MOST_RUNWAYS - 1]).min(MOST_RUNWAYS - 1);
-            runways[past] = rng.pick(&[
+            list[past].runway = rng.pick(&[
                 Runway { number: 18, side: 3 },
                 Runway { number: 1, side: 0 },
                 Runway { number: 0, side: 1 },
@@ -82,7 +87,7 @@ mod tests {
     #[test]
     fn each_refusal_of_a_notice_is_common_and_before_a_refused_model_too() {
         let mut rng = Rng::new(1);
-        let (mut alone, mut both) = ([0; 22], [0; 22]);
+        let (mut alone, mut both) = ([0; 24], [0; 24]);
         for _ in 0..ALL {
             let (desk, model) = board_notice(&mut rng);
             let number = usize::from(notice(&desk, &model).err().unwrap_or(0));
