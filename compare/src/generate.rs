@@ -10,7 +10,7 @@ mod typing;
 
 pub use board::{board_notice, session};
 pub use damage::damaged;
-pub use desk::{any_row_line, desk_input, opening_line, started};
+pub use desk::{any_row_line, desk_input, opening_line, started, two_runs, TwoRuns};
 pub use numbers::{numbers, observation, Observation};
 pub use records::record;
 #[cfg(feature = "library")]

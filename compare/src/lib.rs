@@ -1,4 +1,4 @@
-//! A second reader of document 01, to compare the proved library with.
+//! A second reader of document 01 and of the requests built on it, to compare the proved library with.
 //!
 //! It is written from the document alone and by another plan than the library: a message is cut into lines and groups
 //! first, and judged then. The program is in `main.rs`; another program may use the parts as well.
@@ -8,6 +8,7 @@ mod assess;
 pub mod desk;
 pub mod edges;
 pub mod generate;
+mod isolation;
 pub mod items;
 #[cfg(feature = "library")]
 mod judge;

@@ -4,6 +4,7 @@ use std::io;
 use crate::assess::{agreement, assess};
 use crate::desk::{self, desk, live, notice};
 use crate::generate::{self, Rng, Sample};
+use crate::isolation;
 use crate::models;
 use crate::reader::{read, same, write, Record, LONGEST_MESSAGE};
 use crate::report::Report;
@@ -203,8 +204,9 @@ pub fn run(count: usize, seed: u64) -> bool {
     report.print_counts("notices of a board");
     (0..tenth).for_each(|_| session(&mut rng, &mut report));
     report.print_counts("answers of boards opened with numbers");
+    (0..tenth).for_each(|_| isolation::check(&mut rng, &mut report));
     println!(
-        "{count} messages, {tenth} pairs, {count} observations, {count} rows, {} differences",
+        "{count} messages, {tenth} pairs, {count} observations, {count} rows, {tenth} boards of two runs, {} differences",
         report.differences()
     );
     asked.is_ok() && report.differences() == 0

@@ -3,7 +3,8 @@ use super::damage::{with_byte_damage, with_neighbour, with_row_bound};
 use super::records::{row, runway, word};
 use super::typing::{loosened, Pace};
 use super::Rng;
-use crate::desk::{Owned, Report};
+use crate::desk::{Owned, Report, MOST_RUNWAYS};
+use crate::isolation::is_of;
 use crate::row::{Runway, REPORTED};
 
 /// The digits that are no desk.
@@ -217,4 +218,91 @@ pub fn desk_input(rng: &mut Rng) -> Vec<u8> {
         _ => {}
     }
     input
+}
+
+/// Two desk inputs that open the same board and have the same lines of one desk, in the same order.
+pub struct TwoRuns {
+    pub desk: u8,
+    pub list: Vec<Owned>,
+    pub inputs: [Vec<u8>; 2],
+}
+
+/// Whatever the desk does not send, and where it stands, is another in each of them.
+pub fn two_runs(rng: &mut Rng) -> TwoRuns {
+    let desk = rng.pick(&[1, 2]);
+    let (aerodrome, mut list) = opening(rng);
+    list.truncate(MOST_RUNWAYS);
+    let mut own = report_lines(rng, &list);
+    own.retain(|line| is_of(line, desk));
+    let inputs = [(); 2].map(|()| {
+        let mut lines = report_lines(rng, &list);
+        lines.retain(|line| !is_of(line, desk));
+        let lines = merged(rng, own.clone(), lines);
+        ended(rng, opening_line(&aerodrome, &list), lines)
+    });
+    TwoRuns { desk, list, inputs }
+}
+
+/// Both lists in one, each in its own order.
+fn merged<T>(rng: &mut Rng, one: Vec<T>, other: Vec<T>) -> Vec<T> {
+    let mut from_one: Vec<bool> = one.iter().map(|_| true).chain(other.iter().map(|_| false)).collect();
+    rng.shuffle(&mut from_one);
+    let (mut one, mut other) = (one.into_iter(), other.into_iter());
+    from_one.into_iter().filter_map(|first| if first { one.next() } else { other.next() }).collect()
+}
+
+#[cfg(test)]
+mod tests {
+    use super::*;
+    use crate::desk::desk;
+    use crate::text::lines;
+
+    /// Every refusal that a text can get, each in so many of a thousand answers.
+    #[test]
+    fn each_answer_is_common() {
+        let mut rng = Rng::new(1);
+        let mut counts = [0; 24];
+        let mut all = 0;
+        for _ in 0..1000 {
+            let input = desk_input(&mut rng);
+            let printed = desk(&input);
+            for answer in lines(&printed).iter().skip(1).take(lines(&input).len().saturating_sub(1)) {
+                let answer: usize = std::str::from_utf8(answer).expect("a text").parse().expect("a number");
+                counts[answer] += 1;
+                all += 1;
+            }
+        }
+        for answer in [0, 5, 18, 20, 22, 23] {
+            assert!(1000 * counts[answer] / all >= 50, "{counts:?}");
+        }
+    }
+
+    /// What a report is refused by comes before what it would be refused by otherwise; each such pair has to be met.
+    #[test]
+    fn each_pair_of_neighbours_is_met() {
+        let mut rng = Rng::new(1);
+        let mut met = Vec::new();
+        for _ in 0..100 {
+            let (aerodrome, list) = opening(&mut rng);
+            let first = opening_line(&aerodrome, &list);
+            let reports = reports(&mut rng, &list, &NO_DESKS);
+            let started: Vec<Vec<u8>> = reports.iter().map(started).collect();
+            for (place, line) in started.iter().enumerate() {
+                let after = |line: &[u8]| last_answer(&first, &started[..place], line);
+                // As it is, and sent by each desk.
+                let [told, one, two] = [line[0], b'1', b'2'].map(|digit| after(&[&[digit], &line[1..]].concat()));
+                met.extend([(told, one), (told, two)]);
+            }
+        }
+        for pair in [(23, 18), (23, 22), (23, 20), (23, 0), (18, 18), (22, 20), (22, 0), (20, 22), (0, 22), (5, 5)] {
+            assert!(met.iter().filter(|&&one| one == pair).count() >= 10, "{pair:?}");
+        }
+    }
+
+    fn last_answer(first: &[u8], before: &[Vec<u8>], line: &[u8]) -> u8 {
+        let input = [&[first][..], &before.iter().map(Vec::as_slice).collect::<Vec<_>>(), &[line, b""]].concat();
+        let printed = desk(&input.join(&b'\n'));
+        let answer = lines(&printed).get(before.len() + 1).map(|answer| answer.to_vec()).unwrap_or(b"17".to_vec());
+        std::str::from_utf8(&answer).expect("a text").parse().expect("a number")
+    }
 }
