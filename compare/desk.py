@@ -155,9 +155,9 @@ def seeded_input(seed):
 
 
 def stretched(line, size):
-    """A line with so many spaces before its last group but one that it has so many bytes."""
-    head, tail = line.rsplit(" ", 2)[0], line[len(line.rsplit(" ", 2)[0]) :]
-    return head + " " * (size - len(line)) + tail
+    """A line of so many bytes by the spaces before its last group but one."""
+    head, *tail = line.rsplit(" ", 2)
+    return head + " " * (1 + size - len(line)) + " ".join(tail)
 
 
 STORED = "".join(

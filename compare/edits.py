@@ -285,6 +285,8 @@ def edited(crate, edit):
             new = line.removeprefix("new:").removeprefix(" ")
             texts[path] = replaced(texts.get(path, path.read_text()), old, new, name)
             old = ""
+        elif line and not line.startswith("#"):
+            raise Unfit(f"`{line.strip()}` belongs to no pair: an `old:` and a `new:` have one line each")
     if not texts:
         raise Unfit("it has no pair of `old:` and `new:`")
     return texts

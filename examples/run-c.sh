@@ -25,8 +25,8 @@ mkdir -p target/examples
 compile terminal
 compile list
 
-step "reporting examples/reports.txt to a board of XQAA with the runways 07L and 07R"
-${RUN:-} target/examples/terminal examples/sample.txt XQAA 07L 07R <examples/reports.txt >target/examples/notice.txt
+step "reporting examples/reports.txt to a board of XQAA with the runways 07L of desk 1 and 07R of desk 2"
+${RUN:-} target/examples/terminal examples/sample.txt XQAA 07L/1 07R/2 <examples/reports.txt >target/examples/notice.txt
 
 step "listing the notice that it wrote, target/examples/notice.txt"
 ${RUN:-} target/examples/list <target/examples/notice.txt

@@ -20,8 +20,8 @@ step "compiling examples/rust/src/main.rs"
 # Both commands may have options, so they are not quoted.
 ${RUSTC:-rustc} --edition 2021 -O -L native=target/staticlib -l static=phengaryl -o target/examples/terminal-rust examples/rust/src/main.rs
 
-step "reporting examples/reports.txt to a board of XQAA with the runways 07L and 07R"
-${RUN:-} target/examples/terminal-rust examples/sample.txt XQAA 07L 07R <examples/reports.txt >target/examples/notice-rust.txt
+step "reporting examples/reports.txt to a board of XQAA with the runways 07L of desk 1 and 07R of desk 2"
+${RUN:-} target/examples/terminal-rust examples/sample.txt XQAA 07L/1 07R/2 <examples/reports.txt >target/examples/notice-rust.txt
 
 step "the notice that it wrote, target/examples/notice-rust.txt"
 cat target/examples/notice-rust.txt

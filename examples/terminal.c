@@ -1,11 +1,12 @@
 /*
- * A small terminal: keeps the board of an aerodrome while the inspection cars call in, and writes it as a notice.
+ * A small terminal: keeps the board of an aerodrome while two desks pass on what the inspection cars call in, and writes it as a notice.
  *
- *     terminal MODEL AERODROME RUNWAY... <REPORTS >NOTICE
+ *     terminal MODEL AERODROME RUNWAY/DESK... <REPORTS >NOTICE
  *
- * The runways stand in rising order, as 07L 07R. Reports are runway rows on standard input, one a line; lines end with LF or CR LF, and
- * the last may lack its end. Each is answered on standard error: taken, with the row as the board shows it now, or refused. At the end the
- * notice goes to standard output, with the heading details, items and plain language of the message in the file MODEL.
+ * The runways stand in rising order, each with the desk that owns it, 1 or 2, as 07L/1 07R/2. Reports are runway rows on standard input, one a
+ * line, each behind the digit of the desk that sends it and one space; lines end with LF or CR LF, and the last may lack its end. Each is
+ * answered on standard error: taken, with the row as the board shows it now, or refused. At the end the notice goes to standard output, with
+ * the heading details, items and plain language of the message in the file MODEL.
  *
  * The exit status is 0 where the notice is written, 1 where the board, the model or the notice is refused, and 2 for wrong use or where
  * reading or writing fails. A refused report changes neither the board nor the status.
@@ -25,7 +26,7 @@ static const char *const words[] = {
     [PHENGARYL_LINE_1_OR_2] = "line 1 or 2 (addresses, filing time and originator) is missing or wrong",
     [PHENGARYL_LINE_3] = "line 3 (the heading) is missing or wrong",
     [PHENGARYL_OUTLINE] = "the outline of the message is wrong",
-    [PHENGARYL_NO_ROW] = "this is no valid runway row",
+    [PHENGARYL_NO_ROW] = "this is no valid runway row, or a report without a desk's digit",
     [PHENGARYL_NINTH_ROW] = "there are more than eight rows",
     [PHENGARYL_RUNWAY_TWICE] = "the same runway is reported twice",
     [PHENGARYL_WRONG_ITEMS] = "the awareness line is wrong",
@@ -37,11 +38,13 @@ static const char *const words[] = {
     [PHENGARYL_BUFFER_TOO_SHORT] = "the buffer is shorter than the text",
     [PHENGARYL_OUT_OF_RANGE] = "the observation is out of range",
     [PHENGARYL_CONTRADICTION] = "the observation contradicts itself",
-    [PHENGARYL_WRONG_BOARD] = "the aerodrome or the list of runways is wrong",
+    [PHENGARYL_WRONG_BOARD] = "the aerodrome, the list of runways or an owner is wrong",
     [PHENGARYL_NOT_ON_BOARD] = "the runway is not on the board",
     [PHENGARYL_INVALID_ROW] = "the row is not valid",
     [PHENGARYL_NOT_LATER] = "the report is not later than the row shown",
     [PHENGARYL_NO_REPORT] = "the board holds no report",
+    [PHENGARYL_OTHERS_RUNWAY] = "the runway belongs to the other desk",
+    [PHENGARYL_NO_DESK] = "there is no such desk",
 };
 
 static int refused(const char *what, uint8_t refusal)
@@ -75,31 +78,41 @@ static bool read_model(const char *path, phengaryl_reading *model)
 
 /* ---- The board */
 
-static bool is_digit(char c)
+static bool is_digit(int c)
 {
     return '0' <= c && c <= '9';
 }
 
-/* A runway such as 07 or 07L. What is none becomes zeros, which the library refuses. */
-static phengaryl_runway runway_of(const char *text)
+/* A runway and the desk that owns it. */
+typedef struct owned_runway {
+    phengaryl_runway runway;
+    uint8_t owner;
+} owned_runway;
+
+/* A runway such as 07/1 or 07L/2. What is none becomes zeros, which the library refuses. */
+static owned_runway runway_of(const char *text)
 {
     static const char sides[] = "LCR";
-    const phengaryl_runway none = { 0, PHENGARYL_NO_SIDE };
-    phengaryl_runway runway = none;
+    const owned_runway none = { { 0, PHENGARYL_NO_SIDE }, 0 };
+    owned_runway owned = none;
 
     size_t length = strlen(text);
-    if (length < 2 || length > 3 || !is_digit(text[0]) || !is_digit(text[1])) {
+    if (length < 4 || length > 5 || !is_digit(text[0]) || !is_digit(text[1])) {
         return none;
     }
-    runway.number = (uint8_t)(10 * (text[0] - '0') + (text[1] - '0'));
-    if (length == 3) {
+    if (text[length - 2] != '/' || !is_digit(text[length - 1])) {
+        return none;
+    }
+    owned.runway.number = (uint8_t)(10 * (text[0] - '0') + (text[1] - '0'));
+    owned.owner = (uint8_t)(text[length - 1] - '0');
+    if (length == 5) {
         const char *side = strchr(sides, text[2]);
         if (side == NULL) {
             return none;
         }
-        runway.side = (uint8_t)(PHENGARYL_LEFT + (side - sides));
+        owned.runway.side = (uint8_t)(PHENGARYL_LEFT + (side - sides));
     }
-    return runway;
+    return owned;
 }
 
 static phengaryl_answer open_board(const char *name, char *const *runways, int count)
@@ -114,7 +127,9 @@ static phengaryl_answer open_board(const char *name, char *const *runways, int c
     }
     list.count = (uint8_t)(count <= PLACES ? count : PLACES + 1);
     for (int i = 0; i < count && i < PLACES; i++) {
-        list.runways[i] = runway_of(runways[i]);
+        owned_runway owned = runway_of(runways[i]);
+        list.runways[i] = owned.runway;
+        list.owners[i] = owned.owner;
     }
     return phengaryl_open(aerodrome, list);
 }
@@ -148,16 +163,24 @@ static bool next_line(line *next)
     return true;
 }
 
+/* What a line has before its row: the digit of the desk that sends it, and a space. */
+enum { START = 2 };
+
+static bool has_start(const line *report)
+{
+    return report->length >= START && is_digit(report->bytes[0]) && report->bytes[1] == ' ';
+}
+
 /* What became of a line that was reported, and the row that it holds. */
 static phengaryl_row_read report_line(phengaryl_board *board, const line *report)
 {
     phengaryl_row_read read = { PHENGARYL_NO_ROW, { 0 } };
 
-    if (report->length <= PHENGARYL_LONGEST_TEXT) {
-        read = phengaryl_read_row(report->bytes, report->length);
+    if (report->length <= PHENGARYL_LONGEST_TEXT && has_start(report)) {
+        read = phengaryl_read_row(report->bytes + START, report->length - START);
     }
     if (read.refusal == PHENGARYL_TAKEN) {
-        phengaryl_answer answer = phengaryl_report(*board, read.row);
+        phengaryl_answer answer = phengaryl_report(*board, (uint32_t)(report->bytes[0] - '0'), read.row);
         *board = answer.board;
         read.refusal = answer.refusal;
     }
@@ -210,7 +233,7 @@ int main(int argc, char **argv)
     static phengaryl_reading model;
 
     if (argc < 4) {
-        fprintf(stderr, "usage: terminal MODEL AERODROME RUNWAY... <REPORTS >NOTICE\n");
+        fprintf(stderr, "usage: terminal MODEL AERODROME RUNWAY/DESK... <REPORTS >NOTICE\n");
         return FAILED;
     }
     if (!read_model(argv[1], &model)) {

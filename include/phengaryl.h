@@ -1,5 +1,6 @@
 /*
- * Phengaryl: runway notices (SNOWTAM) read, written, compared, assessed and kept on a board, exactly as document 01 says.
+ * Phengaryl: runway notices (SNOWTAM) read, written, compared, assessed and kept on a board that two desks share, exactly as document 01 and
+ * request 1 of document 02 say.
  *
  * Every function here is proved to keep the promise that its comment gives in plain words; crates/phengaryl/src/lib.rt has it in full.
  * The functions keep nothing between calls, take no memory from the heap, print nothing and always return, so any thread may call them.
@@ -24,7 +25,7 @@ extern "C" {
 #endif
 
 /* The version of this interface. The first number grows with every change that a program has to be compiled anew for. */
-#define PHENGARYL_VERSION "1.0.0"
+#define PHENGARYL_VERSION "2.0.0"
 
 /* A longer message is refused (1), and the canonical text of an accepted one is never longer. */
 #define PHENGARYL_LONGEST_TEXT 4096
@@ -39,7 +40,7 @@ extern "C" {
 #define PHENGARYL_LONGEST_DESK(input_length) (3 * (size_t)(input_length) + 1186)
 
 /*
- * Refusal numbers, as document 01 has them. 0 means accepted, taken or written.
+ * Refusal numbers, as document 01 and request 1 of document 02 have them. 0 means accepted, taken or written.
  */
 enum phengaryl_refusal {
     PHENGARYL_TAKEN = 0,
@@ -48,7 +49,7 @@ enum phengaryl_refusal {
     PHENGARYL_LINE_1_OR_2 = 2,           /* line 1 (priority and addresses) or line 2 (filing time and originator) is missing or wrong */
     PHENGARYL_LINE_3 = 3,                /* line 3 (the heading) is missing or wrong */
     PHENGARYL_OUTLINE = 4,               /* line 4 or 5 is wrong, there is no row, a line or the closing ) is missing, or bytes follow the end */
-    PHENGARYL_NO_ROW = 5,                /* a runway row breaks its own rules; at the desk: the line is no row */
+    PHENGARYL_NO_ROW = 5,                /* a runway row breaks its own rules; at the desk: the line has no desk's digit and space, or no row behind them */
     PHENGARYL_NINTH_ROW = 6,             /* a ninth line that is not empty stands where only eight rows may */
     PHENGARYL_RUNWAY_TWICE = 7,          /* the same runway is reported twice */
     PHENGARYL_WRONG_ITEMS = 8,           /* the awareness line: an item is wrong, out of order, repeated, one too many, or the line is empty before the closing ) */
@@ -63,11 +64,13 @@ enum phengaryl_refusal {
     PHENGARYL_OUT_OF_RANGE = 15,         /* a number of the observation is out of range */
     PHENGARYL_CONTRADICTION = 16,        /* the observation contradicts itself */
     /* The board */
-    PHENGARYL_WRONG_BOARD = 17,          /* the aerodrome or the list of runways is wrong, or a board handed in breaks its rules */
+    PHENGARYL_WRONG_BOARD = 17,          /* the aerodrome, the list of runways or an owner is wrong, or a board handed in breaks its rules */
     PHENGARYL_NOT_ON_BOARD = 18,         /* the runway is not on the board */
     PHENGARYL_INVALID_ROW = 19,          /* the row is not valid */
     PHENGARYL_NOT_LATER = 20,            /* the report is not later than the row shown */
-    PHENGARYL_NO_REPORT = 21             /* the board holds no report */
+    PHENGARYL_NO_REPORT = 21,            /* the board holds no report */
+    PHENGARYL_OTHERS_RUNWAY = 22,        /* the runway belongs to the other desk */
+    PHENGARYL_NO_DESK = 23               /* there is no such desk */
 };
 
 /*
@@ -230,10 +233,11 @@ typedef struct phengaryl_runway {
     uint8_t side;                        /* enum phengaryl_side */
 } phengaryl_runway;
 
-/* Runways in rising order, by number and then by side; zeros past the count. */
+/* Runways in rising order, by number and then by side, and the desk that owns each; zeros past the count. */
 typedef struct phengaryl_runway_list {
     uint8_t count;                       /* 1 to 8 */
     phengaryl_runway runways[8];
+    uint8_t owners[8];                   /* desk 1 or 2; one may own them all */
 } phengaryl_runway_list;
 
 /* A board. It may be kept and copied as it is; a place whose row is all zeros has no report yet. */
@@ -241,6 +245,7 @@ typedef struct phengaryl_board {
     uint8_t aerodrome[4];                /* four letters */
     uint8_t count;                       /* 1 to 8 runways, in rising order */
     phengaryl_runway runways[8];
+    uint8_t owners[8];                   /* the desk that owns each, 1 or 2 */
     phengaryl_row rows[8];               /* the row shown for each */
 } phengaryl_board;
 
@@ -316,15 +321,17 @@ size_t phengaryl_write_row(phengaryl_row row, uint8_t *out, size_t size);
 /* ---- The board */
 
 /*
- * Opens a board for the runways of an aerodrome, none reported yet; 17 where the aerodrome or the list is wrong.
+ * Opens a board for the runways of an aerodrome, each with its owner, none reported yet; 17 where the aerodrome or the list is wrong.
  */
 phengaryl_answer phengaryl_open(const uint8_t aerodrome[4], phengaryl_runway_list list);
 
 /*
- * Reports a row to a board: it is shown if it is later than the row shown for its runway. 17 where the board breaks its rules, 19 where the
- * row is not valid, 18 where its runway is not on the board, 20 where it is not later.
+ * Reports a row to a board: it is shown if the desk that sends it owns its runway and it is later than the row shown there. 17 where the board
+ * breaks its rules, 23 where there is no such desk, 19 where the row is not valid, 18 where its runway is not on the board, 22 where it belongs
+ * to the other desk, 20 where the row is not later. So neither desk's reports change the other's answers, or the rows of the other's runways.
+ * The desk is as wide as an int, so that no number is cut down to one that would be taken.
  */
-phengaryl_answer phengaryl_report(phengaryl_board board, phengaryl_row row);
+phengaryl_answer phengaryl_report(phengaryl_board board, uint32_t desk, phengaryl_row row);
 
 /*
  * Answers whether a board keeps its rules, that is, whether reports to it and its writing are not refused by 17.
@@ -342,10 +349,11 @@ phengaryl_written phengaryl_write_board(phengaryl_board board, phengaryl_details
 /* ---- The desk's text */
 
 /*
- * Puts what the desk prints for a whole input into `out`. The input is a line with the aerodrome and its runways, and then one runway row a line.
- * The text is `REFUSED 17` where no board is opened; else `OPEN`, then 0 or the refusal number of each row line, and at the end the rows shown, in
- * board order. Answers how many bytes the text has, but never more than `size` + 65536: a longer text is told as that. Where it is more than
- * `size`, only the first `size` bytes were put; bytes behind the text stay as they were. PHENGARYL_LONGEST_DESK(length) bytes always suffice.
+ * Puts what the desk prints for a whole input into `out`. The input is a line with the aerodrome and its runways, each with its owner as in `07L/1`,
+ * and then one runway row a line behind the digit of the desk that sends it and one space. The text is `REFUSED 17` where no board is opened; else
+ * `OPEN`, then 0 or the refusal number of each row line, and at the end the rows shown, in board order and without a desk. Answers how many bytes the
+ * text has, but never more than `size` + 65536: a longer text is told as that. Where it is more than `size`, only the first `size` bytes were put;
+ * bytes behind the text stay as they were. PHENGARYL_LONGEST_DESK(length) bytes always suffice.
  */
 size_t phengaryl_desk(const uint8_t *input, size_t length, uint8_t *out, size_t size);
 

@@ -50,6 +50,8 @@ pub mod refusal {
     pub const INVALID_ROW: u8 = 19;
     pub const NOT_LATER: u8 = 20;
     pub const NO_REPORT: u8 = 21;
+    pub const OTHERS_RUNWAY: u8 = 22;
+    pub const NO_DESK: u8 = 23;
 }
 
 /// The fifteen descriptions of a surface; 0 stands for NR.
@@ -235,6 +237,7 @@ pub struct Runway {
 pub struct RunwayList {
     pub count: u8,
     pub runways: [Runway; 8],
+    pub owners: [u8; 8],
 }
 
 #[repr(C)]
@@ -243,6 +246,7 @@ pub struct Board {
     pub aerodrome: [u8; 4],
     pub count: u8,
     pub runways: [Runway; 8],
+    pub owners: [u8; 8],
     pub rows: [Row; 8],
 }
 
@@ -278,7 +282,7 @@ mod library {
         pub fn phengaryl_read_row(text: *const u8, length: usize) -> RowRead;
         pub fn phengaryl_write_row(row: Row, out: *mut u8, size: usize) -> usize;
         pub fn phengaryl_open(aerodrome: *const u8, list: RunwayList) -> Answer;
-        pub fn phengaryl_report(board: Board, row: Row) -> Answer;
+        pub fn phengaryl_report(board: Board, desk: u32, row: Row) -> Answer;
         pub fn phengaryl_valid_board(board: Board) -> bool;
         pub fn phengaryl_write_board(
             board: Board,
@@ -355,16 +359,16 @@ pub fn write_row(row: &Row, out: &mut [u8]) -> usize {
     unsafe { library::phengaryl_write_row(*row, out.as_mut_ptr(), out.len()) }
 }
 
-/// Opens a board for the runways of an aerodrome.
+/// Opens a board for the runways of an aerodrome, each with its owner.
 pub fn open(aerodrome: &[u8; 4], list: &RunwayList) -> Answer {
     // The aerodrome has the four bytes that are read.
     unsafe { library::phengaryl_open(aerodrome.as_ptr(), *list) }
 }
 
-/// Reports a row to a board.
-pub fn report(board: &Board, row: &Row) -> Answer {
+/// Reports a row to a board, sent by a desk.
+pub fn report(board: &Board, desk: u32, row: &Row) -> Answer {
     // Only values are handed over.
-    unsafe { library::phengaryl_report(*board, *row) }
+    unsafe { library::phengaryl_report(*board, desk, *row) }
 }
 
 /// Whether a board keeps its rules.
@@ -439,21 +443,25 @@ impl Row {
 }
 
 impl Board {
-    /// A board with no report yet. More runways than a board has places for are refused as any other wrong list.
-    pub fn open(aerodrome: &[u8; 4], runways: &[Runway]) -> Result<Board, u8> {
+    /// A board with no report yet, of runways and the desk that owns each. More of them than a board has places for are refused as any other
+    /// wrong list.
+    pub fn open(aerodrome: &[u8; 4], owned: &[(Runway, u8)]) -> Result<Board, u8> {
         let mut list = RunwayList::default();
-        if runways.len() > list.runways.len() {
+        if owned.len() > list.runways.len() {
             return Err(refusal::WRONG_BOARD);
         }
-        list.count = runways.len() as u8;
-        list.runways[..runways.len()].copy_from_slice(runways);
+        list.count = owned.len() as u8;
+        for (place, &(runway, owner)) in owned.iter().enumerate() {
+            list.runways[place] = runway;
+            list.owners[place] = owner;
+        }
         let Answer { refusal, board } = open(aerodrome, &list);
         taken(refusal, board)
     }
 
-    /// Shows a row that is later than the one shown; a refused one leaves the board as it was.
-    pub fn report(&mut self, row: &Row) -> Result<(), u8> {
-        let Answer { refusal, board } = report(self, row);
+    /// Shows a row of the desk's own runway that is later than the one shown; a refused one leaves the board as it was.
+    pub fn report(&mut self, desk: u32, row: &Row) -> Result<(), u8> {
+        let Answer { refusal, board } = report(self, desk, row);
         *self = board;
         taken(refusal, ())
     }

@@ -27,7 +27,7 @@ pub struct Report {
 /// A board opened with numbers instead of a line, and what is reported to it. Numbers can be wrong in ways no text is: the
 /// count need not be that of the runways, a side need not be one of the four, and an owner may stand alone.
 #[derive(Clone, Debug)]
-pub struct Session {
+pub struct Shift {
     pub aerodrome: [u8; 4],
     pub list: [Owned; MOST_RUNWAYS],
     pub count: u8,
@@ -62,9 +62,9 @@ pub fn desk(input: &[u8]) -> Vec<u8> {
     printed(run(input))
 }
 
-/// What the desk program would print, were the board of a session opened by a line.
-pub fn live(session: &Session) -> Vec<u8> {
-    printed(session.board().map(|board| board.after(session.reports.iter().map(Report::read))))
+/// What the desk program would print, were the board of a shift opened by a line.
+pub fn live(shift: &Shift) -> Vec<u8> {
+    printed(shift.board().map(|board| board.after(shift.reports.iter().map(Report::read))))
 }
 
 /// The board after a whole desk input as a notice: all but its aerodrome, rows and heading time is the model's. Whether
@@ -139,10 +139,10 @@ impl Report {
     }
 }
 
-impl Session {
+impl Shift {
     /// The board that a desk input opens, and what is reported to it; none where it opens none. A line without a desk's
     /// start is no report and changes nothing, so it is left out.
-    pub fn read(input: &[u8]) -> Option<Session> {
+    pub fn read(input: &[u8]) -> Option<Shift> {
         let lines = lines(input);
         let (first, reports) = lines.split_first()?;
         let Board { aerodrome, places } = Board::read(first)?;
@@ -151,7 +151,7 @@ impl Session {
             *owned = place.owned;
         }
         let reports = reports.iter().filter_map(|line| Report::cut(line)).collect();
-        Some(Session { aerodrome, list, count: places.len() as u8, reports })
+        Some(Shift { aerodrome, list, count: places.len() as u8, reports })
     }
 
     /// The list is wrong too if something stands past its count, be it a side or an owner alone.
@@ -270,7 +270,7 @@ mod tests {
         assert_eq!(told("XQAA 07/2 07L/1 08/2 09/1\n"), "OPEN\n");
     }
 
-    /// A row of a runway, which `RIGHT` is too, but as the desk prints it.
+    /// A row as the desk prints it, of the runway that desk 2 owns below.
     const ROW: &str = "01120640 07R 6/6/6 DRY/DRY/DRY";
 
     /// What a board of 07L, desk 1, and 07R, desk 2, answers to the last of some lines.
@@ -484,63 +484,63 @@ mod tests {
         Owned { runway: Runway { number, side }, owner }
     }
 
-    fn session() -> Session {
+    fn shift() -> Shift {
         let mut list = [Owned::default(); MOST_RUNWAYS];
         list[..3].copy_from_slice(&[owned(7, 1, 1), owned(8, 1, 2), owned(18, 1, 1)]);
-        Session { aerodrome: *b"XQAA", list, count: 3, reports: Vec::new() }
+        Shift { aerodrome: *b"XQAA", list, count: 3, reports: Vec::new() }
     }
 
-    fn with(change: impl Fn(&mut Session)) -> String {
-        let mut session = session();
-        change(&mut session);
-        String::from_utf8_lossy(&live(&session)).into_owned()
+    fn with(change: impl Fn(&mut Shift)) -> String {
+        let mut shift = shift();
+        change(&mut shift);
+        String::from_utf8_lossy(&live(&shift)).into_owned()
     }
 
-    fn all_places(session: &mut Session) {
-        session.list = [11, 12, 13, 14, 15, 16, 17, 18].map(|number| owned(number, 0, 1 + number % 2));
-        session.count = 8;
+    fn all_places(shift: &mut Shift) {
+        shift.list = [11, 12, 13, 14, 15, 16, 17, 18].map(|number| owned(number, 0, 1 + number % 2));
+        shift.count = 8;
     }
 
     #[test]
     fn opening_with_numbers() {
         assert_eq!(with(|_| ()), "OPEN\n");
-        assert_eq!(with(|session| session.list[1] = owned(7, 2, 1)), "OPEN\n");
-        assert_eq!(with(|session| session.list[0] = owned(1, 0, 2)), "OPEN\n");
-        assert_eq!(with(|session| session.list[2].runway.side = 3), "OPEN\n");
-        assert_eq!(with(|session| session.list[1].owner = 1), "OPEN\n");
+        assert_eq!(with(|shift| shift.list[1] = owned(7, 2, 1)), "OPEN\n");
+        assert_eq!(with(|shift| shift.list[0] = owned(1, 0, 2)), "OPEN\n");
+        assert_eq!(with(|shift| shift.list[2].runway.side = 3), "OPEN\n");
+        assert_eq!(with(|shift| shift.list[1].owner = 1), "OPEN\n");
         assert_eq!(with(all_places), "OPEN\n");
-        let wrong: [&dyn Fn(&mut Session); 19] = [
-            &|session| session.aerodrome[0] = b'@',
-            &|session| session.aerodrome[1] = b'[',
-            &|session| session.aerodrome[2] = b'a',
-            &|session| session.aerodrome[3] = 0,
-            &|session| session.list.swap(0, 1),
-            &|session| session.list[1] = Owned { owner: 2, ..session.list[0] },
-            &|session| session.list[1].runway = Runway { number: 7, side: 0 },
-            &|session| session.list[0].runway.number = 0,
-            &|session| session.list[2].runway.number = 19,
-            &|session| session.list[2].runway.side = 4,
-            &|session| session.list[0].runway.side = 255,
+        let wrong: [&dyn Fn(&mut Shift); 19] = [
+            &|shift| shift.aerodrome[0] = b'@',
+            &|shift| shift.aerodrome[1] = b'[',
+            &|shift| shift.aerodrome[2] = b'a',
+            &|shift| shift.aerodrome[3] = 0,
+            &|shift| shift.list.swap(0, 1),
+            &|shift| shift.list[1] = Owned { owner: 2, ..shift.list[0] },
+            &|shift| shift.list[1].runway = Runway { number: 7, side: 0 },
+            &|shift| shift.list[0].runway.number = 0,
+            &|shift| shift.list[2].runway.number = 19,
+            &|shift| shift.list[2].runway.side = 4,
+            &|shift| shift.list[0].runway.side = 255,
             // The count says less or more than there is.
-            &|session| session.count = 0,
-            &|session| session.count = 2,
-            &|session| session.count = 4,
-            &|session| *session = Session { list: Default::default(), count: 0, ..session.clone() },
-            &|session| session.list[3] = owned(18, 2, 2),
-            &|session| session.list[7].runway.number = 1,
-            &|session| session.list[7].runway.side = 1,
-            &|session| {
-                all_places(session);
-                session.count = 9;
+            &|shift| shift.count = 0,
+            &|shift| shift.count = 2,
+            &|shift| shift.count = 4,
+            &|shift| *shift = Shift { list: Default::default(), count: 0, ..shift.clone() },
+            &|shift| shift.list[3] = owned(18, 2, 2),
+            &|shift| shift.list[7].runway.number = 1,
+            &|shift| shift.list[7].runway.side = 1,
+            &|shift| {
+                all_places(shift);
+                shift.count = 9;
             },
         ];
         for (place, change) in wrong.iter().enumerate() {
             assert_eq!(with(change), "REFUSED 17\n", "{place}");
         }
         // Refused before any row is looked at.
-        let reported = |session: &mut Session| {
-            session.reports.push(report(1, "01120640 07L 6/6/6 DRY/DRY/DRY"));
-            session.count = 255;
+        let reported = |shift: &mut Shift| {
+            shift.reports.push(report(1, "01120640 07L 6/6/6 DRY/DRY/DRY"));
+            shift.count = 255;
         };
         assert_eq!(with(reported), "REFUSED 17\n");
     }
@@ -549,13 +549,13 @@ mod tests {
     fn owners_as_numbers() {
         for owner in [0, 3, 4, b'1', b'2', 129, 255] {
             for place in 0..3 {
-                assert_eq!(with(|session| session.list[place].owner = owner), "REFUSED 17\n", "{owner} at {place}");
+                assert_eq!(with(|shift| shift.list[place].owner = owner), "REFUSED 17\n", "{owner} at {place}");
             }
         }
         // Past the count an owner alone is something that stands there, be it a desk.
         for owner in [1, 2, 3, 255] {
             for place in 3..8 {
-                assert_eq!(with(|session| session.list[place].owner = owner), "REFUSED 17\n", "{owner} at {place}");
+                assert_eq!(with(|shift| shift.list[place].owner = owner), "REFUSED 17\n", "{owner} at {place}");
             }
         }
     }
@@ -577,7 +577,7 @@ mod tests {
             report(1, "1 01120641 18L 6/6/6 DRY/DRY/DRY"),
             report(0, "01120641 18L 6/6/6 DRY/DRY/DRY"),
         ];
-        let told = with(|session| session.reports = reports.to_vec());
+        let told = with(|shift| shift.reports = reports.to_vec());
         let shown = "01120610 07L 6/6/6 NR/NR/NR\n01120640 18L 6/6/6 DRY/DRY/DRY\n";
         assert_eq!(told, format!("OPEN\n0\n20\n22\n0\n18\n5\n5\n5\n23\n{shown}"));
     }
@@ -588,9 +588,9 @@ mod tests {
             for line in
                 ["01120640 07L 6/6/6 DRY/DRY/DRY", "01120640 08L 6/6/6 DRY/DRY/DRY", "01120640 01 6/6/6 DRY/DRY/DRY"]
             {
-                assert_eq!(with(|session| session.reports.push(report(desk, line))), "OPEN\n23\n", "{desk}");
+                assert_eq!(with(|shift| shift.reports.push(report(desk, line))), "OPEN\n23\n", "{desk}");
             }
-            assert_eq!(with(|session| session.reports.push(report(desk, "RUBBISH"))), "OPEN\n5\n", "{desk}");
+            assert_eq!(with(|shift| shift.reports.push(report(desk, "RUBBISH"))), "OPEN\n5\n", "{desk}");
         }
     }
 
@@ -598,18 +598,18 @@ mod tests {
     fn a_live_line_is_as_long_as_the_desk_has_room_for_behind_its_start() {
         let row = "01120640 07L 6/6/6 DRY/DRY/DRY";
         let of_length = |length: usize| row.replacen(' ', &" ".repeat(1 + length - row.len()), 1);
-        let told = |length| with(|session| session.reports.push(report(1, &of_length(length))));
+        let told = |length| with(|shift| shift.reports.push(report(1, &of_length(length))));
         assert_eq!(told(4094), format!("OPEN\n0\n{row}\n"));
         assert_eq!(told(4095), "OPEN\n5\n");
     }
 
     #[test]
-    fn a_session_is_read_from_a_desk_input() {
-        let session = Session::read(format!("{BOARD}{RIGHT}XQAA\n3 X\r\n1 ").as_bytes()).expect("a board");
-        assert_eq!(session.list[..3], [owned(7, 1, 1), owned(7, 3, 2), owned(18, 2, 1)]);
-        assert_eq!((session.aerodrome, session.count, session.list[3]), (*b"XQAA", 3, Owned::default()));
-        let reports: Vec<_> = session.reports.iter().map(|report| (report.desk, report.line.len())).collect();
+    fn a_shift_is_read_from_a_desk_input() {
+        let shift = Shift::read(format!("{BOARD}{RIGHT}XQAA\n3 X\r\n1 ").as_bytes()).expect("a board");
+        assert_eq!(shift.list[..3], [owned(7, 1, 1), owned(7, 3, 2), owned(18, 2, 1)]);
+        assert_eq!((shift.aerodrome, shift.count, shift.list[3]), (*b"XQAA", 3, Owned::default()));
+        let reports: Vec<_> = shift.reports.iter().map(|report| (report.desk, report.line.len())).collect();
         assert_eq!(reports, [(2, RIGHT.len() - 3), (3, 1), (1, 0)]);
-        assert!(Session::read(b"XQAA 07L/1 07R\n").is_none());
+        assert!(Shift::read(b"XQAA 07L/1 07R\n").is_none());
     }
 }

@@ -8,9 +8,9 @@ mod records;
 mod structs;
 mod typing;
 
-pub use board::{board_notice, session};
+pub use board::{board_notice, shift};
 pub use damage::damaged;
-pub use desk::{any_row_line, desk_input, opening_line, started, two_runs, TwoRuns};
+pub use desk::{any_row_line, desk_input, is_sent_by, opening_line, started, two_runs, TwoRuns};
 pub use numbers::{numbers, observation, Observation};
 pub use records::record;
 #[cfg(feature = "library")]

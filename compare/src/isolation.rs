@@ -1,7 +1,7 @@
 //! Each desk is alone with its runways: what the other one sends, or what no desk sends, changes neither the answers to its
 //! reports nor the rows of its runways.
 use crate::desk::{desk, Owned};
-use crate::generate::{self, Rng, TwoRuns};
+use crate::generate::{self, is_sent_by, Rng, TwoRuns};
 use crate::report::Report;
 use crate::text::lines;
 
@@ -19,7 +19,8 @@ impl Told {
         let input = lines(input);
         // The opening is answered by OPEN, so an answer stands where its line does.
         let (answers, rows) = printed.split_at(input.len());
-        let answers = input.iter().zip(answers).filter(|(line, _)| is_of(line, owner)).map(|(_, answer)| text(answer));
+        let answers =
+            input.iter().zip(answers).filter(|(line, _)| is_sent_by(line, owner)).map(|(_, answer)| text(answer));
         let runways: Vec<String> =
             list.iter().filter(|owned| owned.owner == owner).map(|owned| owned.runway.text()).collect();
         let is_own =
@@ -30,11 +31,6 @@ impl Told {
 
 fn text(line: &[u8]) -> String {
     String::from_utf8_lossy(line).into_owned()
-}
-
-/// Whether a line of the desk's input is sent by a desk; the rest of it may be anything.
-pub fn is_of(line: &[u8], desk: u8) -> bool {
-    line.starts_with(&[b'0' + desk, b' '])
 }
 
 /// Two runs in which the lines of one desk are the same tell it the same.
@@ -56,7 +52,7 @@ mod tests {
 
     #[test]
     fn what_a_desk_is_told() {
-        let list = crate::desk::Session::read(LIST).expect("a board").list;
+        let list = crate::desk::Shift::read(LIST).expect("a board").list;
         let row = |time: &str, runway: &str| format!("{time} {runway} 6/6/6 NR/NR/NR");
         let (left, right) = (row("01120640", "07L"), row("01120641", "07R"));
         let input = format!("XQAA 07L/1 07R/2\n1 {left}\n2 {left}\n2 {right}\n1 {left}\n1 X\nX\n3 {right}\n");

@@ -1,4 +1,4 @@
-//! Structs handed over as they are, judged by document 01: no text need be able to tell what they hold.
+//! Structs handed over as they are, judged by the documents: no text need be able to tell what they hold.
 use crate::library::{self, Answer, Board, Details, Items, Language};
 use crate::reader;
 use crate::row::{Row, Runway};
@@ -26,6 +26,8 @@ pub fn is_board(board: &Board) -> bool {
         && runways.iter().all(Runway::is_reported)
         && runways.windows(2).all(|pair| pair[0] < pair[1])
         && unused.iter().all(|&runway| runway == library::Runway::default())
+        && board.owners[..count].iter().all(|owner| [1, 2].contains(owner))
+        && board.owners[count..].iter().all(|&owner| owner == 0)
         && board.rows[..count].iter().zip(&runways).all(|(row, runway)| is_blank(row) || is_row_of(row, runway))
         && board.rows[count..].iter().all(is_blank)
 }
@@ -40,25 +42,31 @@ fn is_row_of(row: &library::Row, runway: &Runway) -> bool {
 }
 
 /// What a report has to answer.
-pub fn report(board: &Board, row: &library::Row) -> Answer {
+pub fn report(board: &Board, desk: u32, row: &library::Row) -> Answer {
     let mut answer = Answer { refusal: 0, board: *board };
-    match place(board, row) {
+    match place(board, desk, row) {
         Ok(place) => answer.board.rows[place] = *row,
         Err(refusal) => answer.refusal = refusal,
     }
     answer
 }
 
-/// The place that a row is taken to.
-fn place(board: &Board, row: &library::Row) -> Result<usize, u8> {
+/// The place that a desk's row is taken to.
+fn place(board: &Board, desk: u32, row: &library::Row) -> Result<usize, u8> {
     if !is_board(board) {
         return Err(17);
+    }
+    if ![1, 2].contains(&desk) {
+        return Err(23);
     }
     if !Row::from(row).is_valid() {
         return Err(19);
     }
     let runway = library::Runway { number: row.number, side: row.side };
     let place = board.runways.iter().position(|&listed| listed == runway).ok_or(18)?;
+    if u32::from(board.owners[place]) != desk {
+        return Err(22);
+    }
     let shown = &board.rows[place];
     if !is_blank(shown) && row.time <= shown.time {
         return Err(20);
@@ -96,12 +104,13 @@ mod tests {
         let mut board = Board { aerodrome: *b"XQAA", count: 2, ..Default::default() };
         board.runways[0] = library::Runway { number: 7, side: 1 };
         board.runways[1] = library::Runway { number: 7, side: 3 };
+        board.owners[..2].copy_from_slice(&[1, 2]);
         board.rows[1] = row(b"01120640 07R 6/6/6 DRY/DRY/DRY");
         board
     }
 
     /// Each alone breaks a rule of a board that keeps them all.
-    const BREACHES: [fn(&mut Board); 10] = [
+    const BREACHES: [fn(&mut Board); 14] = [
         |board| board.aerodrome[3] = b'a',
         |board| board.count = 0,
         |board| board.count = 1,
@@ -110,6 +119,10 @@ mod tests {
         |board| board.runways.swap(0, 1),
         |board| board.runways[0].number = 0,
         |board| board.runways[7].side = 1,
+        |board| board.owners[0] = 0,
+        |board| board.owners[1] = 3,
+        |board| board.owners[1] = 255,
+        |board| board.owners[2] = 1,
         |board| board.rows.swap(0, 1),
         |board| board.rows[0].width = 1,
     ];
@@ -126,12 +139,39 @@ mod tests {
 
     #[test]
     fn reports() {
-        let told = |text: &[u8]| report(&board(), &row(text)).refusal;
-        assert_eq!(told(b"01120640 07R 5/5/5 NR/NR/NR NR/NR/NR WET/WET/WET"), 20);
-        assert_eq!(told(b"01120641 07R 6/6/6 DRY/DRY/DRY"), 0);
-        assert_eq!(told(b"01120639 07L 6/6/6 DRY/DRY/DRY"), 0);
-        assert_eq!(told(b"01120641 07 6/6/6 DRY/DRY/DRY"), 18);
-        assert_eq!(report(&board(), &library::Row::default()), Answer { refusal: 19, board: board() });
-        assert_eq!(report(&Board::default(), &library::Row::default()).refusal, 17);
+        let told = |desk, text: &[u8]| report(&board(), desk, &row(text)).refusal;
+        assert_eq!(told(2, b"01120640 07R 5/5/5 NR/NR/NR NR/NR/NR WET/WET/WET"), 20);
+        assert_eq!(told(2, b"01120641 07R 6/6/6 DRY/DRY/DRY"), 0);
+        assert_eq!(told(1, b"01120639 07L 6/6/6 DRY/DRY/DRY"), 0);
+        assert_eq!(told(1, b"01120641 07 6/6/6 DRY/DRY/DRY"), 18);
+    }
+
+    /// 17, 23, 19, 18, 22, 20: each before the one behind it, both being there.
+    #[test]
+    fn the_order_of_a_report() {
+        let good = row(b"01120640 07R 6/6/6 DRY/DRY/DRY");
+        let invalid = library::Row { width: 100, ..good };
+        let elsewhere = library::Row { side: 0, ..good };
+        let invalid_elsewhere = library::Row { width: 100, ..elsewhere };
+        let wrong = Board { owners: [1, 2, 1, 0, 0, 0, 0, 0], ..board() };
+        for (refusal, board, desk, row) in [
+            (17, wrong, 3, good),
+            (17, wrong, 2, invalid),
+            (17, Board::default(), 0, library::Row::default()),
+            (23, board(), 3, invalid),
+            (23, board(), 0, elsewhere),
+            (23, board(), 257, good),
+            (23, board(), 258, good),
+            (23, board(), u32::MAX, good),
+            (19, board(), 1, invalid),
+            (19, board(), 2, invalid_elsewhere),
+            (19, board(), 2, invalid),
+            (18, board(), 1, elsewhere),
+            (18, board(), 2, elsewhere),
+            (22, board(), 1, good),
+            (20, board(), 2, good),
+        ] {
+            assert_eq!(report(&board, desk, &row), Answer { refusal, board }, "desk {desk}, {row:?}");
+        }
     }
 }

@@ -98,15 +98,15 @@ fn board_notice(rng: &mut Rng, report: &mut Report) {
 
 /// A board that opens with numbers tells what the desk tells of the same board and lines. A number that no digit can say
 /// is no desk, as 9 is none.
-fn session(rng: &mut Rng, report: &mut Report) {
-    let session = generate::session(rng);
-    let told = live(&session);
+fn shift(rng: &mut Rng, report: &mut Report) {
+    let shift = generate::shift(rng);
+    let told = live(&shift);
     if told == b"REFUSED 17\n" {
         report.count(17);
         return;
     }
-    let mut input = generate::opening_line(&session.aerodrome, &session.list[..usize::from(session.count)]);
-    for sent in session.reports {
+    let mut input = generate::opening_line(&shift.aerodrome, &shift.list[..usize::from(shift.count)]);
+    for sent in shift.reports {
         // Not LF alone, before which a CR of the line would be no text.
         input.extend_from_slice(b"\r\n");
         input.extend(generate::started(&desk::Report { desk: sent.desk.min(9), ..sent }));
@@ -115,7 +115,7 @@ fn session(rng: &mut Rng, report: &mut Report) {
     let expected = desk(&input);
     count_answers(&told, report);
     if told != expected {
-        report.differ("session", &input, &expected.escape_ascii().to_string(), &told.escape_ascii().to_string());
+        report.differ("shift", &input, &expected.escape_ascii().to_string(), &told.escape_ascii().to_string());
     }
 }
 
@@ -202,7 +202,7 @@ pub fn run(count: usize, seed: u64) -> bool {
     }
     (0..tenth).for_each(|_| board_notice(&mut rng, &mut report));
     report.print_counts("notices of a board");
-    (0..tenth).for_each(|_| session(&mut rng, &mut report));
+    (0..tenth).for_each(|_| shift(&mut rng, &mut report));
     report.print_counts("answers of boards opened with numbers");
     (0..tenth).for_each(|_| isolation::check(&mut rng, &mut report));
     println!(

@@ -1,7 +1,7 @@
 //! Boards that are written as notices, and boards that are opened with numbers.
 use super::desk::{desk_input, ended, opening, opening_line, report_lines, reports};
 use super::{message, record, typing, Rng};
-use crate::desk::{Owned, Session, MOST_RUNWAYS};
+use crate::desk::{Owned, Shift, MOST_RUNWAYS};
 use crate::row::Runway;
 
 /// Senders that are no desk, among them what would be one if it were cut down to fewer bits.
@@ -27,28 +27,28 @@ pub fn board_notice(rng: &mut Rng) -> (Vec<u8>, Vec<u8>) {
 }
 
 /// A board opened with numbers, every fourth time wrong ones, and reports of its runways.
-pub fn session(rng: &mut Rng) -> Session {
+pub fn shift(rng: &mut Rng) -> Shift {
     let (aerodrome, opened) = opening(rng);
     let reports = reports(rng, &opened, &NO_DESKS);
     let mut list = [Owned::default(); MOST_RUNWAYS];
     for (place, &owned) in list.iter_mut().zip(&opened) {
         *place = owned;
     }
-    let mut session = Session { aerodrome, list, count: opened.len() as u8, reports };
+    let mut shift = Shift { aerodrome, list, count: opened.len() as u8, reports };
     if rng.chance(25) {
-        with_wrong_numbers(rng, &mut session);
+        with_wrong_numbers(rng, &mut shift);
     }
-    session
+    shift
 }
 
 /// One rule of opening broken, or only just kept.
-fn with_wrong_numbers(rng: &mut Rng, session: &mut Session) {
-    let used = usize::from(session.count).min(MOST_RUNWAYS);
+fn with_wrong_numbers(rng: &mut Rng, shift: &mut Shift) {
+    let used = usize::from(shift.count).min(MOST_RUNWAYS);
     let (one, other) = (rng.below(used), rng.below(used));
     let past = rng.pick(&[used, used, MOST_RUNWAYS - 1]).min(MOST_RUNWAYS - 1);
-    let list = &mut session.list;
+    let list = &mut shift.list;
     match rng.below(13) {
-        0 => session.aerodrome[rng.below(4)] = rng.pick(b"@[AZaz09 \n\x00\xc1\xff"),
+        0 => shift.aerodrome[rng.below(4)] = rng.pick(b"@[AZaz09 \n\x00\xc1\xff"),
         1 => list.swap(one, other),
         2 => list[one].runway = list[other].runway,
         3 => list[one].runway.side = rng.pick(&[0, 1, 2, 3, 4, 5, 255]),
@@ -56,8 +56,8 @@ fn with_wrong_numbers(rng: &mut Rng, session: &mut Session) {
         5 => list[0].runway.number = 0,
         6 => list[used - 1].runway.number = 19,
         // A count that is not the list's: less leaves runways past it, more takes zeros in.
-        7 => session.count = rng.pick(&[0, 1, session.count - 1, session.count + 1, 8, 9, 10, 255]),
-        8 => (session.count, *list) = (0, Default::default()),
+        7 => shift.count = rng.pick(&[0, 1, shift.count - 1, shift.count + 1, 8, 9, 10, 255]),
+        8 => (shift.count, *list) = (0, Default::default()),
         9 | 10 => list[one].owner = rng.pick(&[0, 1, 2, 3, 4, b'1', b'2', 129, 254, 255]),
         // Past the count, be it next in order or only a side or an owner.
         11 => list[past].owner = rng.pick(&[1, 2, 3, 255]),
@@ -100,9 +100,25 @@ mod tests {
     }
 
     #[test]
-    fn most_sessions_open() {
+    fn most_shifts_open() {
         let mut rng = Rng::new(1);
-        let opened = (0..ALL).filter(|_| live(&session(&mut rng)).starts_with(b"OPEN")).count();
+        let opened = (0..ALL).filter(|_| live(&shift(&mut rng)).starts_with(b"OPEN")).count();
         assert!((70..90).contains(&share(opened)), "{opened}");
+    }
+
+    /// Each that can come behind an opening, in so many of a hundred answers.
+    #[test]
+    fn each_answer_of_a_shift_is_common() {
+        let mut rng = Rng::new(1);
+        let mut answers = Vec::new();
+        for _ in 0..ALL {
+            let shift = shift(&mut rng);
+            let told = String::from_utf8_lossy(&live(&shift)).into_owned();
+            answers.extend(told.lines().skip(1).take(shift.reports.len()).map(str::to_string));
+        }
+        for answer in ["0", "5", "18", "20", "22", "23"] {
+            let count = answers.iter().filter(|&told| told == answer).count();
+            assert!(100 * count / answers.len() >= 5, "{answer}: {count} of {}", answers.len());
+        }
     }
 }

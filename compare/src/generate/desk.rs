@@ -4,7 +4,6 @@ use super::records::{row, runway, word};
 use super::typing::{loosened, Pace};
 use super::Rng;
 use crate::desk::{Owned, Report, MOST_RUNWAYS};
-use crate::isolation::is_of;
 use crate::row::{Runway, REPORTED};
 
 /// The digits that are no desk.
@@ -220,6 +219,11 @@ pub fn desk_input(rng: &mut Rng) -> Vec<u8> {
     input
 }
 
+/// Whether a line of the desk's input is sent by a desk; the rest of it may be anything.
+pub fn is_sent_by(line: &[u8], desk: u8) -> bool {
+    line.starts_with(&[b'0' + desk, b' '])
+}
+
 /// Two desk inputs that open the same board and have the same lines of one desk, in the same order.
 pub struct TwoRuns {
     pub desk: u8,
@@ -233,10 +237,10 @@ pub fn two_runs(rng: &mut Rng) -> TwoRuns {
     let (aerodrome, mut list) = opening(rng);
     list.truncate(MOST_RUNWAYS);
     let mut own = report_lines(rng, &list);
-    own.retain(|line| is_of(line, desk));
+    own.retain(|line| is_sent_by(line, desk));
     let inputs = [(); 2].map(|()| {
         let mut lines = report_lines(rng, &list);
-        lines.retain(|line| !is_of(line, desk));
+        lines.retain(|line| !is_sent_by(line, desk));
         let lines = merged(rng, own.clone(), lines);
         ended(rng, opening_line(&aerodrome, &list), lines)
     });

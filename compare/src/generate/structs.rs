@@ -41,11 +41,11 @@ pub fn damage_record(rng: &mut Rng, record: &mut Record) {
     }
 }
 
-/// One field or byte changed, or runways or rows put elsewhere.
+/// One field or byte changed, or runways, owners or rows put elsewhere.
 pub fn damage_board(rng: &mut Rng, board: &mut Board) {
     let used = usize::from(board.count);
     let (one, other) = (place(rng, used, 8), place(rng, used, 8));
-    match rng.below(12) {
+    match rng.below(15) {
         0 => one_byte(rng, &mut board.aerodrome, 4),
         1 => byte(rng, &mut board.count),
         2 => byte(rng, &mut board.runways[one].number),
@@ -54,6 +54,10 @@ pub fn damage_board(rng: &mut Rng, board: &mut Board) {
         5 => board.rows.swap(one, other),
         6 => board.rows[one] = board.rows[other],
         7 => board.rows[one] = Row::default(),
+        8 => byte(rng, &mut board.owners[one]),
+        // Still a board, unless a place that is not used gets an owner.
+        9 => board.owners.swap(one, other),
+        10 => board.owners[one] = rng.pick(&[0, 1, 2, 3, 255]),
         _ => damage_row(rng, &mut board.rows[one]),
     }
 }

@@ -1,10 +1,13 @@
 //! The desk's text, and boards that are kept as structs.
 use super::{Run, Shown};
-use crate::desk::{self, Session};
+use crate::desk::{self, Report, Shift};
 use crate::generate;
 use crate::judge;
 use crate::library::{self, Answer, Board, Record, Row, RunwayList};
 use crate::reader::LONGEST_MESSAGE;
+
+/// Senders: the desks, and numbers that are none, among them what would be a desk if it were cut down to fewer bits.
+const SENDERS: [u32; 14] = [1, 1, 1, 1, 2, 2, 2, 2, 0, 3, 257, 258, 65_537, u32::MAX];
 
 /// A board in the library, and what it answered to each line.
 struct Live {
@@ -27,7 +30,7 @@ impl Run {
         self.report.count(expected.err().unwrap_or(0));
         self.writes("a board's notice", &both, expected, |out| library::board_notice(&input, &model, out));
 
-        let live = Session::read(&input).and_then(|session| self.live(&session));
+        let live = Shift::read(&input).and_then(|shift| self.live(&shift));
         if let Some(Live { board, .. }) = live {
             let record = library::read(&model).record;
             let Record { items, language, .. } = record;
@@ -40,57 +43,64 @@ impl Run {
 
     /// A board opened with numbers prints what the desk would, and is judged once more with something done to it.
     pub fn live_board(&mut self) {
-        let session = generate::session(&mut self.rng);
-        let live = self.live(&session);
-        self.agree("a live board", &session, Shown(desk::live(&session)), Shown(printed(live.as_ref())));
+        let shift = generate::shift(&mut self.rng);
+        let live = self.live(&shift);
+        self.agree("a live board", &shift, Shown(desk::live(&shift)), Shown(printed(live.as_ref())));
         if let Some(Live { board, .. }) = live {
             self.damaged_board(board);
         }
     }
 
     /// Opens a board, and reports each line that is a row. Every board that comes of it keeps the rules.
-    fn live(&mut self, session: &Session) -> Option<Live> {
-        let list = RunwayList { count: session.count, runways: session.runways.map(library::Runway::from) };
-        let Answer { refusal, mut board } = library::open(&session.aerodrome, &list);
+    fn live(&mut self, shift: &Shift) -> Option<Live> {
+        let list = RunwayList {
+            count: shift.count,
+            runways: shift.list.map(|owned| owned.runway.into()),
+            owners: shift.list.map(|owned| owned.owner),
+        };
+        let Answer { refusal, mut board } = library::open(&shift.aerodrome, &list);
         if refusal != 0 {
             let expected = Answer { refusal: 17, board: Board::default() };
-            self.agree("a refused opening", session, expected, Answer { refusal, board });
+            self.agree("a refused opening", shift, expected, Answer { refusal, board });
             return None;
         }
-        self.agree("an opened board", session, true, library::valid_board(&board));
+        self.agree("an opened board", shift, true, library::valid_board(&board));
         let mut answers = Vec::new();
-        for line in &session.lines {
-            answers.push(self.report_line(&mut board, line));
+        for report in &shift.reports {
+            answers.push(self.report_line(&mut board, report));
         }
         Some(Live { board, answers })
     }
 
-    /// As the desk takes a line: one that is too long is not looked at.
-    fn report_line(&mut self, board: &mut Board, line: &[u8]) -> u8 {
-        if line.len() > LONGEST_MESSAGE {
+    /// As the desk takes a line: one that is too long, with the two bytes before its row, is not looked at.
+    fn report_line(&mut self, board: &mut Board, report: &Report) -> u8 {
+        if report.line.len() + 2 > LONGEST_MESSAGE {
             return 5;
         }
-        let read = library::read_row(line);
+        let read = library::read_row(&report.line);
         if read.refusal != 0 {
             return read.refusal;
         }
-        let answer = self.report_row(board, &read.row);
+        let answer = self.report_row(board, report.desk, &read.row);
         self.agree("a board after a report", answer, true, library::valid_board(&answer.board));
         *board = answer.board;
         answer.refusal
     }
 
-    fn report_row(&mut self, board: &Board, row: &Row) -> Answer {
-        let answer = library::report(board, row);
-        self.agree("a report", (board, row), judge::report(board, row), answer);
+    fn report_row(&mut self, board: &Board, desk: u32, row: &Row) -> Answer {
+        let answer = library::report(board, desk, row);
+        self.agree("a report", (board, desk, row), judge::report(board, desk, row), answer);
         answer
     }
 
     fn damaged_board(&mut self, mut board: Board) {
-        let row = self.row_for(&board);
-        generate::damage_board(&mut self.rng, &mut board);
+        let (desk, row) = self.row_for(&board);
+        // At times the board is left as it is, so that what comes behind 17 is met.
+        if self.rng.chance(70) {
+            generate::damage_board(&mut self.rng, &mut board);
+        }
         self.agree("a damaged board", board, judge::is_board(&board), library::valid_board(&board));
-        let answer = self.report_row(&board, &row);
+        let answer = self.report_row(&board, desk, &row);
         self.report.count(answer.refusal);
 
         let mut record = Record::from(&generate::record(&mut self.rng));
@@ -107,8 +117,9 @@ impl Run {
         });
     }
 
-    /// A row that may be invalid, mostly of one of the board's runways and observed about when the row shown was.
-    fn row_for(&mut self, board: &Board) -> Row {
+    /// A row that may be invalid, mostly of one of the board's runways and observed about when the row shown was, and who
+    /// sends it: its owner, or anyone.
+    fn row_for(&mut self, board: &Board) -> (u32, Row) {
         let mut row = Row::from(&generate::numbers(&mut self.rng));
         let place = self.rng.below(board.count.into());
         if self.rng.chance(70) {
@@ -117,7 +128,8 @@ impl Run {
         if self.rng.chance(50) {
             row.time = board.rows[place].time.wrapping_add(self.rng.pick(&[0, 1, u32::MAX]));
         }
-        row
+        let desk = if self.rng.chance(50) { board.owners[place].into() } else { self.rng.pick(&SENDERS) };
+        (desk, row)
     }
 }
 

@@ -37,7 +37,7 @@ impl Run {
 
     /// A line that holds a row, or something that was one. How long it is matters to the desk alone.
     pub fn row_line(&mut self) {
-        let line = generate::long_row_line(&mut self.rng, &[]);
+        let line = generate::any_row_line(&mut self.rng);
         let expected = match Row::read(&line) {
             Some(row) => RowRead { refusal: 0, row: (&row).into() },
             None => RowRead { refusal: 5, ..Default::default() },

@@ -69,6 +69,23 @@ module _ {A : Type 0} (p : A → Bool) (d : A) (l : List A) (i : ℕ) where
   unfolding _and_
   all-off h e = sym (ap (all p) (next-place d l i h) ∙ rw e)
 
+-- the first n of a list, looked at one by one
+module _ {A : Type 0} (p : A → Bool) (d : A) (n : ℕ) (l : List A) (i : ℕ) where
+  pub used-end : length l ≤ i → true ≡ all p (drop i (take n l))
+  used-end h = rw (none-left l n i (omega arith))
+
+  pub used-past : n ≤ i → true ≡ all p (drop i (take n l))
+  used-past h = rw (none-left l n i (omega arith))
+
+  module _ (f : i < length l) (h : i < n) where
+    pub used-on : p (getD l i d) ≡ true → all p (drop i (take n l)) ≡ all p (drop (i + 1) (take n l))
+    unfolding _and_
+    used-on e = ap (all p) (next-used d l i n h f) ∙ rw e
+
+    pub used-off : p (getD l i d) ≡ false → false ≡ all p (drop i (take n l))
+    unfolding _and_
+    used-off e = sym (ap (all p) (next-used d l i n h f) ∙ rw e)
+
 -- rows in their places
 module _ (n : ℕ) (ws : List Runway) (rs : List Row) (i : ℕ) (d : Row) where
   abbrev fits : Bool

@@ -1,10 +1,11 @@
--- The board: document 01, "The board".
+-- The board: document 01, "The board"; document 02, "Two desks on one board".
 use Prim.Native.Nat.{ℕ}
 use mathlib.Core.List.{List, [], _∷_}
 use mathlib.Core.Bool.{cond, Bool, true}
 use lib.Dec.{eqb, leb, ltb}
 use lib.ListN.{length, take, drop, replicate}
-use Rattle.text.specs.Choice.{_and_, all}
+use Rattle.text.specs.Choice.{_and_, all, member}
+use Rattle.text.specs.Arrays.{isZero}
 use Rattle.runway.specs.Runway.{validRunway}
 use Rattle.row.specs.declared.Row.{Row}
 use Rattle.row.specs.Row.{highestRunway, validRow, blankRow, isBlankRow}
@@ -50,6 +51,18 @@ validList aerodrome count runways =
     isAerodrome aerodrome and leb 1 count and leb count places and eqb (length runways) places
     and rising blankRunway (take count runways) and all isBlankRunway (drop count runways)
 
+-- "desk 1 or 2"
+unfoldable pub isDesk : ℕ → Bool
+isDesk d = member (1 ∷ 2 ∷ []) d
+
+-- "Each runway gets an owner, desk 1 or 2", zeros past the count
+unfoldable pub validOwners : ℕ → List ℕ → Bool
+validOwners count owners = eqb (length owners) places and all isDesk (take count owners) and all isZero (drop count owners)
+
+-- what is opened: "17 also for a wrong owner"
+unfoldable pub validOpening : List ℕ → ℕ → List Runway → List ℕ → Bool
+validOpening aerodrome count runways owners = validList aerodrome count runways and validOwners count owners
+
 -- the row names the runway
 unfoldable pub names : Row → Runway → Bool
 names r w = eqb (r .number) (w .number) and eqb (r .side) (w .side)
@@ -74,7 +87,7 @@ runwaysOf b = take (b .count) (b .runways)
 
 -- the board's rules
 unfoldable pub validBoard : Board → Bool
-validBoard b = validList (b .aerodrome) (b .count) (b .runways) and validPlaces (b .count) (b .runways) (b .rows)
+validBoard b = validOpening (b .aerodrome) (b .count) (b .runways) (b .owners) and validPlaces (b .count) (b .runways) (b .rows)
 
 -- nothing reported
 abbrev pub noRows : List Row
@@ -82,11 +95,17 @@ noRows = replicate places blankRow
 
 -- "blank means all zero"
 abbrev pub blankBoard : Board
-blankBoard = record { aerodrome = replicate aerodromeSize 0; count = 0; runways = replicate places blankRunway; rows = noRows }
+blankBoard = record {
+  aerodrome = replicate aerodromeSize 0;
+  count = 0;
+  runways = replicate places blankRunway;
+  owners = replicate places 0;
+  rows = noRows;
+}
 
 -- a board with nothing reported
-abbrev pub fresh : List ℕ → ℕ → List Runway → Board
-fresh aerodrome count runways = record { aerodrome = aerodrome; count = count; runways = runways; rows = noRows }
+abbrev pub fresh : List ℕ → ℕ → List Runway → List ℕ → Board
+fresh aerodrome count runways owners = record { aerodrome = aerodrome; count = count; runways = runways; owners = owners; rows = noRows }
 
 -- a refusal number, 0 for taken, and the board afterwards
 abbrev pub answer : ℕ → Board → Answer
@@ -96,6 +115,6 @@ answer n b = record { refusal = n; board = b }
 abbrev pub refusedOpening : Answer
 refusedOpening = answer wrongBoard blankBoard
 
--- "Opened with an aerodrome and 1 to 8 runways"
-unfoldable pub opening : List ℕ → ℕ → List Runway → Answer
-opening aerodrome count runways = cond (validList aerodrome count runways) (answer 0 (fresh aerodrome count runways)) refusedOpening
+-- "Opened with an aerodrome and 1 to 8 runways", "each runway gets an owner .. at opening"
+unfoldable pub opening : List ℕ → ℕ → List Runway → List ℕ → Answer
+opening aerodrome count runways owners = cond (validOpening aerodrome count runways owners) (answer 0 (fresh aerodrome count runways owners)) refusedOpening

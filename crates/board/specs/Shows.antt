@@ -1,4 +1,4 @@
--- What each runway shows, said of the list of reports alone (demand 3).
+-- What each runway shows, said of the list of reports alone: demand 3, in which "a report from the wrong desk or no desk counts as not valid".
 use Prim.Native.Nat.{ℕ}
 use mathlib.Core.Path.{_≡_}
 use mathlib.Core.List.{List, _∷_, _++_, List·Memᴰ}
@@ -11,6 +11,7 @@ use Rattle.board.specs.declared.Runway.{Runway}
 use Rattle.board.specs.declared.Board.{Board}
 use Rattle.board.specs.Board.{names, blankRunway}
 use Rattle.board.specs.Report.{rowAt}
+use Rattle.board.specs.declared.Sent.{Sent}
 
 -- a row, or nothing
 pub data Shown : Type 0 where
@@ -29,30 +30,31 @@ runwayAt b i = getD (b .runways) i blankRunway
 abbrev pub shownAt : Board → ℕ → Shown
 shownAt b i = shown (rowAt b i)
 
--- the row is one of the list
-abbrev pub _isIn_ : Row → List Row → Type 0
-r isIn rs = List·Memᴰ r rs
+-- the report is one of the list
+abbrev pub _isIn_ : Sent → List Sent → Type 0
+x isIn xs = List·Memᴰ x xs
 
 infixr 20 _isIn_
--- a valid report that names the runway
-pub record ReportFor (w : Runway) (r : Row) : Type 0 where
-  pub valid : validRow r ≡ true
-  pub named : names r w ≡ true
+-- a valid report for the runway w that the desk o owns: the owner sends it, and its row is valid and names the runway
+pub record ReportFor (w : Runway) (o : ℕ) (x : Sent) : Type 0 where
+  pub sender : x .desk ≡ o
+  pub valid : validRow (x .row) ≡ true
+  pub named : names (x .row) w ≡ true
 
--- r arrives behind the reports `before`, and the reports `after` behind it; it was observed later than each before it, and none after it was observed later
-pub record Last (w : Runway) (rs : List Row) (r : Row) : Type 0 where
-  pub before : List Row
-  pub after : List Row
-  pub split : rs ≡ before ++ r ∷ after
-  pub for : ReportFor w r
-  pub over : (q : Row) → q isIn before → ReportFor w q → later (r .time) (q .time) ≡ true
-  pub under : (q : Row) → q isIn after → ReportFor w q → later (q .time) (r .time) ≡ false
+-- x arrives behind the reports `before`, and the reports `after` behind it; it was observed later than each before it, and none after it was observed later
+pub record Last (w : Runway) (o : ℕ) (xs : List Sent) (x : Sent) : Type 0 where
+  pub before : List Sent
+  pub after : List Sent
+  pub split : xs ≡ before ++ x ∷ after
+  pub for : ReportFor w o x
+  pub over : (y : Sent) → y isIn before → ReportFor w o y → later (x .row .time) (y .row .time) ≡ true
+  pub under : (y : Sent) → y isIn after → ReportFor w o y → later (y .row .time) (x .row .time) ≡ false
 
--- of the valid reports that name the runway the one observed last, among equal times the first to arrive, and nothing where there is none
-pub data Shows (w : Runway) (rs : List Row) : Shown → Type 0 where
-  shows-none : ((q : Row) → q isIn rs → ReportFor w q → ⊥) → Shows w rs nothing
-  shows-row : {r : Row} → Last w rs r → Shows w rs (row r)
+-- of the valid reports for the runway the one observed last, among equal times the first to arrive, and nothing where there is none
+pub data Shows (w : Runway) (o : ℕ) (xs : List Sent) : Shown → Type 0 where
+  shows-none : ((y : Sent) → y isIn xs → ReportFor w o y → ⊥) → Shows w o xs nothing
+  shows-row : {x : Sent} → Last w o xs x → Shows w o xs (row (x .row))
 
 -- no two different valid reports for the runway bear the same time
-abbrev pub Apart : Runway → List Row → Type 0
-Apart w rs = (p q : Row) → p isIn rs → q isIn rs → ReportFor w p → ReportFor w q → p .time ≡ q .time → p ≡ q
+abbrev pub Apart : Runway → ℕ → List Sent → Type 0
+Apart w o xs = (x y : Sent) → x isIn xs → y isIn xs → ReportFor w o x → ReportFor w o y → x .row .time ≡ y .row .time → x ≡ y

@@ -7,8 +7,8 @@ ghost use lib.ListN.{take, drop};
 ghost use Rattle.text.specs.Choice.{all};
 ghost use mathlib.Core.Bool.{cond};
 ghost use Rattle.row.specs.Row.{isBlankRow};
-ghost use Rattle.board.specs.Board.{isAerodrome, blankRunway, isBlankRunway, comesBefore, rises, rising, validList, names, fitsPlace, validPlaces, validBoard, blankBoard, opening, refusedOpening};
-ghost use Rattle.board.specs.Report.{placeOf, isNews, report};
+ghost use Rattle.board.specs.Board.{isAerodrome, blankRunway, isBlankRunway, comesBefore, rises, rising, validList, names, fitsPlace, validPlaces, isDesk, validOwners, validOpening, validBoard, blankBoard, opening, refusedOpening};
+ghost use Rattle.board.specs.Report.{placeOf, isNews, placeFor, refusal, report};
 use frontlines::read_aerodrome;
 use row::HIGHEST_RUNWAY;
 use row::Row;
@@ -17,6 +17,7 @@ use row::is_blank_row;
 use row::valid_row;
 use runway::is_later;
 use runway::valid_runway;
+use scan::zeros_from;
 use text::refusal;
 
 #[repr(C)]
@@ -32,7 +33,15 @@ pub struct Board {
     pub aerodrome: [u8; 4],
     pub count: u8,
     pub runways: [Runway; 8],
+    // the desk of each runway, 1 or 2
+    pub owners: [u8; 8],
     pub rows: [Row; 8],
+}
+
+// A report: a row, and the desk that sends it.
+pub struct Sent {
+    pub desk: u32,
+    pub row: Row,
 }
 
 // A refusal number, 0 for taken, and the board afterwards.
@@ -121,7 +130,7 @@ fn rest_blank(count: usize, runways: [Runway; 8]) -> bool
     true
 }
 
-// An aerodrome and a list of runways that opening takes.
+// An aerodrome and a list of runways.
 fn valid_list(aerodrome: [u8; 4], count: u8, runways: [Runway; 8]) -> bool
     ensures { λ r. ⌜ r ≡ validList aerodrome count runways ⌝ }
 {
@@ -145,6 +154,54 @@ fn names(r: Row, w: Runway) -> bool
 {
     if r.number == w.number {
         return r.side == w.side;
+    }
+    false
+}
+
+fn is_desk(desk: u32) -> bool
+    ensures { λ r. ⌜ r ≡ isDesk desk ⌝ }
+{
+    if 1 == desk {
+        return true;
+    }
+    2 == desk
+}
+
+// The first `count` owners are desks.
+fn all_desks(count: usize, owners: [u8; 8]) -> bool
+    ensures { λ r. ⌜ r ≡ all isDesk (take count owners) ⌝ }
+{
+    let mut i: usize = 0;
+    while i < PLACES {
+        if count <= i {
+            return true;
+        }
+        let owner = owners[i];
+        if is_desk(owner as u32) {
+            i += 1;
+        } else {
+            return false;
+        }
+    }
+    true
+}
+
+// A desk for each of `count` runways, and zeros behind them.
+fn valid_owners(count: usize, owners: [u8; 8]) -> bool
+    ensures { λ r. ⌜ r ≡ validOwners count owners ⌝ }
+{
+    if all_desks(count, owners) {
+        return zeros_from(&owners, count);
+    }
+    false
+}
+
+// An aerodrome, a list of runways and their owners that opening takes.
+fn valid_opening(aerodrome: [u8; 4], count: u8, runways: [Runway; 8], owners: [u8; 8]) -> bool
+    ensures { λ r. ⌜ r ≡ validOpening aerodrome count runways owners ⌝ }
+{
+    if valid_list(aerodrome, count, runways) {
+        return valid_owners(count as usize, owners);
     }
     false
 }
@@ -194,7 +251,8 @@ pub fn valid_board(b: Board) -> bool
 {
     let aerodrome = b.aerodrome;
     let runways = b.runways;
-    if valid_list(aerodrome, b.count, runways) {
+    let owners = b.owners;
+    if valid_opening(aerodrome, b.count, runways, owners) {
         let rows = b.rows;
         return valid_places(b.count as usize, runways, rows);
     }
@@ -211,6 +269,7 @@ fn blank_board() -> Board
         aerodrome: [0; 4],
         count: 0,
         runways: [BLANK_RUNWAY; 8],
+        owners: [0; 8],
         rows: [r; 8],
     }
 }
@@ -225,16 +284,17 @@ pub fn refused_opening() -> Answer
     }
 }
 
-// A board of an aerodrome and 1 to 8 rising runways, with nothing reported; 17 and the blank board where they are none.
-pub fn open(aerodrome: [u8; 4], count: u8, runways: [Runway; 8]) -> Answer
-    ensures { λ a. ⌜ a ≡ opening aerodrome count runways ⌝ }
+// A board of an aerodrome and 1 to 8 rising runways with their owners, nothing reported; 17 and the blank board where they are none.
+pub fn open(aerodrome: [u8; 4], count: u8, runways: [Runway; 8], owners: [u8; 8]) -> Answer
+    ensures { λ a. ⌜ a ≡ opening aerodrome count runways owners ⌝ }
 {
-    if valid_list(aerodrome, count, runways) {
+    if valid_opening(aerodrome, count, runways, owners) {
         let r = blank_row();
         let b = Board {
             aerodrome,
             count,
             runways,
+            owners,
             rows: [r; 8],
         };
         return Answer {
@@ -274,60 +334,67 @@ fn is_news(r: Row, shown: Row) -> bool
     is_later(r.time, shown.time)
 }
 
-// A report is taken only if observed later than the row shown: 17, 19, 18, 20, and the board as it was when refused.
-pub fn report(b: Board, r: Row) -> Answer
-    ensures { λ a. ⌜ a ≡ report b r ⌝ }
+// The first thing that is wrong with a report whose runway has the place `i`: 17, 23, 19, 18, 22, 20; 0 where nothing is.
+fn refusal_at(b: Board, desk: u32, r: Row, i: usize) -> u8
+    requires { ⌜ i ≡ placeFor b r ⌝ }
+    ensures { λ n. ⌜ n ≡ refusal b desk r ⌝ }
 {
-    if valid_board(b) {
-        if valid_row(r) {
-            let n = b.count as usize;
-            let runways = b.runways;
-            let i = place_of(r, n, runways);
-            if i < n {
-                let shown = b.rows[i];
-                if is_news(r, shown) {
-                    let mut next = b;
-                    next.rows[i] = r;
-                    return Answer {
-                        refusal: 0,
-                        board: next,
-                    };
-                }
-                return Answer {
-                    refusal: refusal::NOT_LATER,
-                    board: b,
-                };
-            }
-            return Answer {
-                refusal: refusal::NOT_ON_BOARD,
-                board: b,
-            };
-        }
-        return Answer {
-            refusal: refusal::INVALID_ROW,
-            board: b,
-        };
+    if !valid_board(b) {
+        return refusal::WRONG_BOARD;
     }
+    if !is_desk(desk) {
+        return refusal::NO_DESK;
+    }
+    if !valid_row(r) {
+        return refusal::INVALID_ROW;
+    }
+    if b.count as usize <= i {
+        return refusal::NOT_ON_BOARD;
+    }
+    let owner = b.owners[i];
+    if desk != owner as u32 {
+        return refusal::OTHERS_RUNWAY;
+    }
+    let shown = b.rows[i];
+    if !is_news(r, shown) {
+        return refusal::NOT_LATER;
+    }
+    0
+}
+
+// A report is taken only from the desk that owns its runway, and only if observed later than the row shown; refused, the board stays as it was.
+pub fn report(b: Board, x: Sent) -> Answer
+    ensures { λ a. ⌜ a ≡ report b (x .desk) (x .row) ⌝ }
+{
+    let r = x.row;
+    let runways = b.runways;
+    let i = place_of(r, b.count as usize, runways);
+    let refusal = refusal_at(b, x.desk, r, i);
+    if refusal != 0 {
+        return Answer { refusal, board: b };
+    }
+    let mut next = b;
+    next.rows[i] = r;
     Answer {
-        refusal: refusal::WRONG_BOARD,
-        board: b,
+        refusal,
+        board: next,
     }
 }
 
 // The desk's step: the board is updated in its place, and the refusal number answered.
-pub fn take_report(board: &mut Board, row: Row) -> u8
-    ensures { λ n. ⌜ (now (board .exit) ≡ report (now (board .entry)) row .board) × (n ≡ report (now (board .entry)) row .refusal) ⌝ }
+pub fn take_report(board: &mut Board, x: Sent) -> u8
+    ensures { λ n. ⌜ (now (board .exit) ≡ report (now (board .entry)) (x .desk) (x .row) .board) × (n ≡ report (now (board .entry)) (x .desk) (x .row) .refusal) ⌝ }
 {
-    let a = report(*board, row);
+    let a = report(*board, x);
     *board = a.board;
     a.refusal
 }
 
 // The same step for a caller that keeps the board by value: it is lent for the call.
-pub fn updated(b: Board, row: Row) -> Answer
-    ensures { λ a. ⌜ a ≡ report b row ⌝ }
+pub fn updated(b: Board, x: Sent) -> Answer
+    ensures { λ a. ⌜ a ≡ report b (x .desk) (x .row) ⌝ }
 {
     let mut board = b;
-    let refusal = take_report(&mut board, row);
+    let refusal = take_report(&mut board, x);
     Answer { refusal, board }
 }

@@ -14,9 +14,11 @@ use Rattle.items.specs.declared.Items.{Items}
 use Rattle.items.specs.declared.Language.{Language}
 use Rattle.body.specs.Rows.{makeRows}
 use Rattle.boardnotice.specs.declared.Details.{Details}
-use Rattle.board.specs.Board.{isBlankRunway, comesBefore, rises, rising, isAerodrome, validList, names, fitsPlace, fitPlaces, validPlaces, validBoard}
+use Rattle.board.specs.Board.{isBlankRunway, comesBefore, rises, rising, isAerodrome, validList, names, fitsPlace, fitPlaces, validPlaces, isDesk, validOwners}
+use Rattle.board.specs.Board.{validOpening, validBoard}
 use Rattle.board.specs.Board.{blankBoard}
-use Rattle.board.specs.Report.{placeOf, isNews, report, reports}
+use Rattle.board.specs.Report.{placeOf, isNews, refusal, report}
+use Rattle.board.specs.Runs.{_sends_, reports}
 use Rattle.boardnotice.specs.Writing.{reported, boardRecord, writingBoard, writtenBoard}
 use Rattle.board.specs.Tables.{board, dryRow, holding, left, right}
 
@@ -30,13 +32,13 @@ pub record Writings : Type 0 where
   rows : (d : Details) (i : Items) (l : Language) → boardRecord (holding (blankRow ∷ right ∷ [])) d i l .rows ≡ makeRows (right ∷ [])
   both : (d : Details) (i : Items) (l : Language) → boardRecord (holding (left ∷ right ∷ [])) d i l .rows ≡ makeRows (left ∷ right ∷ [])
   -- in board order whatever came first
-  shown : reported (reports board (right ∷ left ∷ dryRow 1120605 7 1 ∷ []) .rows) ≡ left ∷ right ∷ []
+  shown : reported (reports board (2 sends right ∷ 1 sends left ∷ 1 sends dryRow 1120605 7 1 ∷ 2 sends dryRow 1120700 7 1 ∷ []) .rows) ≡ left ∷ right ∷ []
   aerodrome : (d : Details) (i : Items) (l : Language) → boardRecord board d i l .title .aerodrome ≡ bytes "XQAA"
 
 pub writings : Writings
 unfolding _and_ isShortMonth daysOf realDay realClock realTime later validRunway isContaminant isDeep isCoverage validCoverage leastDepth isReported
     validDepth validThird isBlankThird threeThat isBlankRow validRow isLetters isAerodrome isBlankRunway comesBefore rises rising validList names fitsPlace
-    fitPlaces validPlaces validBoard placeOf isNews report reports reported writingBoard writtenBoard
+    fitPlaces validPlaces isDesk validOwners validOpening validBoard placeOf isNews refusal report reports reported writingBoard writtenBoard
 writings = record {
   wrong = λ d i l n. refl;
   silent = λ d i l n. refl;

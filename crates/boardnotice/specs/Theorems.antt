@@ -18,7 +18,7 @@ use Rattle.notice.specs.Writing.{unwritten, writing, written}
 use Rattle.notice.specs.Theorems.{Filled, untouched, wrote-filled, read-valid, refused-blank}
 use Rattle.board.specs.declared.Board.{Board}
 use Rattle.boardnotice.specs.declared.Details.{Details}
-use Rattle.board.specs.Board.{validBoard, validList, isAerodrome, blankBoard}
+use Rattle.board.specs.Board.{validBoard, validOpening, validList, isAerodrome, blankBoard}
 use Rattle.frontlines.specs.Letters.{isLetters}
 use Rattle.desktext.specs.Desk.{deskBoard}
 use Rattle.frontlines.specs.Addresses.{validAddresses}
@@ -83,7 +83,7 @@ no-model b i l = refl
 module _ (desk model : List ℕ) {before after : List ℕ} {w : Written} (p : WroteDeskNotice desk model before after w) where
   -- 17 where no board opens: the desk keeps the blank one
   pub unopened : deskBoard desk ≡ blankBoard → w ≡ unwritten 17
-  unfolding validBoard validList isAerodrome isLetters _and_
+  unfolding validBoard validOpening validList isAerodrome isLetters _and_
   unopened e = p .answer ∙ writes-17 _ _ _ _ _ (ap validBoard e)
 
   module _ (v : validBoard (deskBoard desk) ≡ true) where
@@ -95,7 +95,9 @@ module _ (desk model : List ℕ) {before after : List ℕ} {w : Written} (p : Wr
       -- 13 where the model is refused
       pub unmodelled : (reading model .refusal ≡ 0 → ⊥) → w ≡ unwritten 13
       unfolding writing
-      unmodelled refused = p .answer ∙ writes _ _ _ _ _ v some ∙ (rw (refused-blank model refused, no-model (deskBoard desk) (blankRecord .items) (blankRecord .language)) refl)
+      unmodelled refused =
+          p .answer ∙ writes _ _ _ _ _ v some
+          ∙ (rw (refused-blank model refused, no-model (deskBoard desk) (blankRecord .items) (blankRecord .language)) refl)
 
       -- else the board's notice with what the model says, or 14
       pub modelled : reading model .refusal ≡ 0

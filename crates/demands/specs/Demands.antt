@@ -1,5 +1,6 @@
--- The three demands, clause by clause and in their order. What a theorem assumes is what functions promise, as their `ensures` say it; what it
--- concludes is the clause that is quoted above it, behind which stands the function.
+-- The three demands, clause by clause and in their order, as the requests of document 02 that have landed read them; and what those requests demand. What a
+-- theorem assumes is what functions promise, as their `ensures` say it; what it concludes is the clause that is quoted above it, behind which stands the
+-- function.
 use Prim.Native.Nat.{ℕ, _<_, _≤_, _+_, _*_}
 use mathlib.Core.Path.{_≡_, refl, sym, subst, _∙_, ap}
 use mathlib.Core.List.{List, [], _∷_, _++_, List·Permᴰ}
@@ -13,12 +14,11 @@ use Rattle.text.specs.Choice.{member, isEmpty}
 use Rattle.text.specs.Piece.{bytes}
 use Rattle.text.specs.Lines.{lines}
 use Rattle.text.specs.Put.{Put}
-use Rattle.text.specs.Arrays.{pad}
 use Rattle.text.specs.Read.{Got, misfit, got, whole}
 use Rattle.text.specs.Laws.Arrays.{take-front}
 use Rattle.text.specs.Refusals.{tooLong, lineOneOrTwo, lineThree, outline, noRow, ninthRow, runwayTwice, wrongItems, wrongLanguage, serialsDiffer}
 use Rattle.text.specs.Refusals.{aerodromesDiffer, notLatestTime, invalidRecord, bufferTooShort, outOfRange, contradiction, wrongBoard, notOnBoard, invalidRow}
-use Rattle.text.specs.Refusals.{notLater, noReport}
+use Rattle.text.specs.Refusals.{notLater, noReport, othersRunway, noDesk}
 use Rattle.surface.specs.declared.Observation.{Observation}
 use Rattle.surface.specs.declared.Assessment.{Assessment}
 use Rattle.surface.specs.Descriptions.{notReported, dry}
@@ -50,18 +50,20 @@ use Rattle.notice.specs.Theorems.{Told}
 use Rattle.board.specs.declared.Runway.{Runway}
 use Rattle.board.specs.declared.Board.{Board}
 use Rattle.board.specs.declared.Answer.{Answer}
-use Rattle.board.specs.Board.{places, blankRunway, runwaysOf, validList, validBoard, blankBoard, answer, opening}
-use Rattle.board.specs.Report.{placeOf, rowAt, isNews, report, reports}
+use Rattle.board.specs.declared.Sent.{Sent}
+use Rattle.board.specs.Board.{places, blankRunway, isDesk, validOpening, validBoard, blankBoard, answer, opening}
+use Rattle.board.specs.Report.{placeFor, rowAt, ownerAt, isNews, refusal, report}
+use Rattle.board.specs.Runs.{_sends_, reports, from, answersTo}
 use Rattle.board.specs.Shows.{nothing, shownAt, _isIn_, ReportFor, Shows, shows-none, Apart}
 use Rattle.board.specs.Laws.Shows.{shows-one}
 use Rattle.board.specs.Theorems as Board
 use Rattle.boardnotice.specs.declared.Details.{Details}
 use Rattle.boardnotice.specs.Writing.{reported, boardRecord, writingBoard, WroteBoard}
 use Rattle.boardnotice.specs.Theorems as BoardNotice
-use Rattle.desktext.specs.Line.{readOpening, openingRead, openingLine, reportRead, reportLine}
+use Rattle.desktext.specs.Line.{readOpening, listOf, openingRead, openingLine, readSender, reportRead, reportStarted, reportLine}
 use Rattle.desktext.specs.Desk.{printed, shownRows, deskText, reportLines}
 use Rattle.desktext.specs.Laws.Line.{Opens}
-use Rattle.desktext.specs.Laws.Desk.{line-opens, no-opening, RowsTold, lines-tell, lines-report}
+use Rattle.desktext.specs.Laws.Desk.{line-opens, no-opening, ReportsTold, lines-tell, lines-report}
 use Rattle.desktext.specs.Theorems as Desk
 use Rattle.desktext.specs.Theorems.{answerLines}
 
@@ -82,9 +84,9 @@ readingRefusals =
 abbrev pub assessingRefusals : List ℕ
 assessingRefusals = outOfRange ∷ contradiction ∷ []
 
--- "Report: 17, 19, 18, 20"
+-- "order 17, 23, 19, 18, 22, 20"
 abbrev pub reportRefusals : List ℕ
-reportRefusals = wrongBoard ∷ invalidRow ∷ notOnBoard ∷ notLater ∷ []
+reportRefusals = wrongBoard ∷ noDesk ∷ invalidRow ∷ notOnBoard ∷ othersRunway ∷ notLater ∷ []
 
 -- writing a record: 13, 14
 abbrev pub writingRefusals : List ℕ
@@ -140,47 +142,56 @@ unfolding agreement
 agreement-by-number r a e = rw e (either (λ (x : Agreement). x .refusal takenOrRefusedBy (invalidRow ∷ [])) (validRow r) refl refl)
 
 -- opening a board, `open`: 17
-pub opening-by-number : (aerodrome : List ℕ) (count : ℕ) (runways : List Runway) (a : Answer) → a ≡ opening aerodrome count runways
+pub opening-by-number : (aerodrome : List ℕ) (count : ℕ) (runways : List Runway) (owners : List ℕ) (a : Answer) → a ≡ opening aerodrome count runways owners
     → a .refusal takenOrRefusedBy (wrongBoard ∷ [])
 unfolding opening
-opening-by-number aerodrome count runways a e =
-    rw e (either (λ (x : Answer). x .refusal takenOrRefusedBy (wrongBoard ∷ [])) (validList aerodrome count runways) refl refl)
+opening-by-number aerodrome count runways owners a e =
+    rw e (either (λ (x : Answer). x .refusal takenOrRefusedBy (wrongBoard ∷ [])) (validOpening aerodrome count runways owners) refl refl)
 
 -- and by a line, `open_line`
 pub opening-line-by-number : (l : List ℕ) (a : Answer) → a ≡ openingLine l → a .refusal takenOrRefusedBy (wrongBoard ∷ [])
 unfolding openingLine
 opening-line-by-number l a e = rw e (go (whole (readOpening l)))
   where
-    go : (g : Got (List ℕ × List Runway)) → openingRead g .refusal takenOrRefusedBy (wrongBoard ∷ [])
+    go : (g : Got (List ℕ × List (Runway × ℕ))) → openingRead g .refusal takenOrRefusedBy (wrongBoard ∷ [])
     go misfit = refl
-    go (got p k) = opening-by-number (p .0) (length (p .1)) (pad places blankRunway (p .1)) (openingRead (got p k)) refl
+    go (got p k) = let l = listOf (p .1) in opening-by-number (p .0) (l .count) (l .runways) (l .owners) (openingRead (got p k)) refl
+
+-- a report is a row with its sender
+abbrev pub reportOf : Board → Sent → Answer
+reportOf b x = report b (x .desk) (x .row)
 
 -- "Every .. report ..": `report`, and `updated`
-pub report-by-number : (b : Board) (r : Row) (a : Answer) → a ≡ report b r → a .refusal takenOrRefusedBy reportRefusals
-unfolding report
-report-by-number b r a e =
-    let i = placeOf r (runwaysOf b) in
-    rw e (either Named (validBoard b) (either Named (validRow r) (either Named (ltb i (b .count))
-    (either Named (isNews r (rowAt b i)) refl refl) refl) refl) refl)
+pub report-by-number : (b : Board) (x : Sent) (a : Answer) → a ≡ reportOf b x → a .refusal takenOrRefusedBy reportRefusals
+unfolding report refusal
+report-by-number b x a e =
+    let r = x .row in
+    let i = placeFor b r in
+    rw e (either Named (validBoard b) (either Named (isDesk (x .desk)) (either Named (validRow r) (either Named (ltb i (b .count))
+    (either Named (eqb (x .desk) (ownerAt b i)) (either Named (isNews r (rowAt b i)) refl refl) refl) refl) refl) refl) refl)
   where
-    Named : Answer → Type 0
-    Named x = x .refusal takenOrRefusedBy reportRefusals
+    Named : ℕ → Type 0
+    Named n = n takenOrRefusedBy reportRefusals
 
 -- `take_report`, on the board that it is lent
-pub step-by-number : (b c : Board) (r : Row) (n : ℕ) → (c ≡ report b r .board) × (n ≡ report b r .refusal) → n takenOrRefusedBy reportRefusals
-step-by-number b c r n p = rw (p .1) (report-by-number b r (report b r) refl)
+pub step-by-number : (b c : Board) (x : Sent) (n : ℕ) → (c ≡ reportOf b x .board) × (n ≡ reportOf b x .refusal) → n takenOrRefusedBy reportRefusals
+step-by-number b c x n p = rw (p .1) (report-by-number b x (reportOf b x) refl)
 
--- `report_line`: 5 too, where the line is no row
+-- `report_line`: 5 too, where the line does not start with a desk or is no row behind that
 pub line-by-number : (b : Board) (l : List ℕ) (a : Answer) → a ≡ reportLine b l → a .refusal takenOrRefusedBy (noRow ∷ reportRefusals)
 unfolding reportLine
-line-by-number b l a e = rw e (either Named (leb (length l) 4096) (go (wholeRow l)) refl)
+line-by-number b l a e = rw e (either Named (leb (length l) 4096) (started (readSender l)) refl)
   where
     Named : Answer → Type 0
     Named x = x .refusal takenOrRefusedBy (noRow ∷ reportRefusals)
 
-    go : (g : Got Row) → Named (reportRead b g)
-    go misfit = refl
-    go (got r k) = or-by noRow reportRefusals (report b r .refusal) (report-by-number b r (report b r) refl)
+    go : (d : ℕ) (g : Got Row) → Named (reportRead b d g)
+    go d misfit = refl
+    go d (got r k) = or-by noRow reportRefusals (report b d r .refusal) (report-by-number b (d sends r) (report b d r) refl)
+
+    started : (g : Got ℕ) → Named (reportStarted b g)
+    started misfit = refl
+    started (got d k) = go d (wholeRow k)
 
 -- "Every .. record ..": `write`
 pub record-by-number : {r : Record} {before after : List ℕ} {w : Written} → Wrote r before after w → w .refusal takenOrRefusedBy writingRefusals
@@ -207,25 +218,29 @@ pub refused-reading : (m : List ℕ) (a : Reading) → a ≡ reading m → (a .r
 refused-reading m a e h = ap (λ x. x .«record») e ∙ Notice.refused-blank m (λ z. h (ap (λ x. x .refusal) e ∙ z))
 
 -- "a refused report leaves the board as before"
-pub refused-report : (b : Board) (r : Row) (a : Answer) → a ≡ report b r → (a .refusal ≡ 0 → ⊥) → a .board ≡ b
-refused-report b r a e h = ap (λ x. x .board) e ∙ Board.refused-stays b r (λ z. h (ap (λ x. x .refusal) e ∙ z))
+pub refused-report : (b : Board) (x : Sent) (a : Answer) → a ≡ reportOf b x → (a .refusal ≡ 0 → ⊥) → a .board ≡ b
+refused-report b x a e h = ap (λ y. y .board) e ∙ Board.refused-stays b (x .desk) (x .row) (λ z. h (ap (λ y. y .refusal) e ∙ z))
 
 -- and so does `take_report`, on the board that it is lent
-pub refused-step : (b c : Board) (r : Row) (n : ℕ) → (c ≡ report b r .board) × (n ≡ report b r .refusal) → (n ≡ 0 → ⊥) → c ≡ b
-refused-step b c r n p h = p .0 ∙ Board.refused-stays b r (λ z. h (p .1 ∙ z))
+pub refused-step : (b c : Board) (x : Sent) (n : ℕ) → (c ≡ reportOf b x .board) × (n ≡ reportOf b x .refusal) → (n ≡ 0 → ⊥) → c ≡ b
+refused-step b c x n p h = p .0 ∙ Board.refused-stays b (x .desk) (x .row) (λ z. h (p .1 ∙ z))
 
 -- and so does `report_line`
 pub refused-report-line : (b : Board) (l : List ℕ) (a : Answer) → a ≡ reportLine b l → (a .refusal ≡ 0 → ⊥) → a .board ≡ b
 unfolding reportLine
 refused-report-line b l a e h =
-    ap (λ x. x .board) e ∙ either Kept (leb (length l) 4096) (go (wholeRow l)) (λ k. refl) (λ z. h (ap (λ x. x .refusal) e ∙ z))
+    ap (λ x. x .board) e ∙ either Kept (leb (length l) 4096) (started (readSender l)) (λ k. refl) (λ z. h (ap (λ x. x .refusal) e ∙ z))
   where
     Kept : Answer → Type 0
     Kept x = (x .refusal ≡ 0 → ⊥) → x .board ≡ b
 
-    go : (g : Got Row) → Kept (reportRead b g)
-    go misfit = λ k. refl
-    go (got r m) = refused-report b r (report b r) refl
+    go : (d : ℕ) (g : Got Row) → Kept (reportRead b d g)
+    go d misfit = λ k. refl
+    go d (got r m) = refused-report b (d sends r) (report b d r) refl
+
+    started : (g : Got ℕ) → Kept (reportStarted b g)
+    started misfit = λ k. refl
+    started (got d m) = go d (wholeRow m)
 
 -- "a refused writing touches no byte of the buffer", and answers length 0: `write`
 pub refused-writing : {r : Record} {before after : List ℕ} {w : Written} → Wrote r before after w → (w .refusal ≡ 0 → ⊥) → (after ≡ before) × (w .length ≡ 0)
@@ -256,11 +271,11 @@ refused-assessing o a e h =
     Blank x = (x .refusal ≡ 0 → ⊥) → x .third ≡ third 0 notReported notReported notReported
 
 -- "A refused opening yields the blank board": `open`
-pub refused-opening : (aerodrome : List ℕ) (count : ℕ) (runways : List Runway) (a : Answer) → a ≡ opening aerodrome count runways → (a .refusal ≡ 0 → ⊥)
-    → a .board ≡ blankBoard
+pub refused-opening : (aerodrome : List ℕ) (count : ℕ) (runways : List Runway) (owners : List ℕ) (a : Answer) → a ≡ opening aerodrome count runways owners
+    → (a .refusal ≡ 0 → ⊥) → a .board ≡ blankBoard
 unfolding opening
-refused-opening aerodrome count runways a e h =
-    ap (λ x. x .board) e ∙ either Blank (validList aerodrome count runways) (λ k. absurd (k refl)) (λ k. refl) (λ z. h (ap (λ x. x .refusal) e ∙ z))
+refused-opening aerodrome count runways owners a e h =
+    ap (λ x. x .board) e ∙ either Blank (validOpening aerodrome count runways owners) (λ k. absurd (k refl)) (λ k. refl) (λ z. h (ap (λ x. x .refusal) e ∙ z))
   where
     Blank : Answer → Type 0
     Blank x = (x .refusal ≡ 0 → ⊥) → x .board ≡ blankBoard
@@ -270,9 +285,9 @@ pub refused-opening-line : (l : List ℕ) (a : Answer) → a ≡ openingLine l �
 unfolding openingLine
 refused-opening-line l a e h = ap (λ x. x .board) e ∙ go (whole (readOpening l)) (λ z. h (ap (λ x. x .refusal) e ∙ z))
   where
-    go : (g : Got (List ℕ × List Runway)) → (openingRead g .refusal ≡ 0 → ⊥) → openingRead g .board ≡ blankBoard
+    go : (g : Got (List ℕ × List (Runway × ℕ))) → (openingRead g .refusal ≡ 0 → ⊥) → openingRead g .board ≡ blankBoard
     go misfit k = refl
-    go (got p m) k = refused-opening (p .0) (length (p .1)) (pad places blankRunway (p .1)) (openingRead (got p m)) refl k
+    go (got p m) k = let l = listOf (p .1) in refused-opening (p .0) (l .count) (l .runways) (l .owners) (openingRead (got p m)) refl k
 
 -- "An invalid row is refused (19, count 0)": `disagreeing`
 pub refused-agreement : (r : Row) (a : Agreement) → a ≡ agreement r → (a .refusal ≡ 0 → ⊥) → a .count ≡ 0
@@ -352,11 +367,26 @@ pub data Calls {A : Type 0} (step : Board → A → Answer) : Board → List A �
   lent : {b c d : Board} {x : A} {xs : List A} (n : ℕ) → (c ≡ step b x .board) × (n ≡ step b x .refusal) → Calls step c xs d → Calls step b (x ∷ xs) d
 
 -- they leave the board that the definitions give
-are-reports : {b c : Board} {rs : List Row} → Calls report b rs c → c ≡ reports b rs
+are-reports : {b c : Board} {xs : List Sent} → Calls reportOf b xs c → c ≡ reports b xs
 unfolding reports
 are-reports no-call = refl
-are-reports (answered {xs = rs} a e k) = are-reports k ∙ ap (λ x. reports (x .board) rs) e
-are-reports (lent {xs = rs} n e k) = are-reports k ∙ ap (λ b. reports b rs) (e .0)
+are-reports (answered {xs = xs} a e k) = are-reports k ∙ ap (λ y. reports (y .board) xs) e
+are-reports (lent {xs = xs} n e k) = are-reports k ∙ ap (λ b. reports b xs) (e .0)
+
+-- the answers of calls to a desk's reports, in their order
+pub answersOf : ℕ → {b c : Board} {xs : List Sent} → Calls reportOf b xs c → List ℕ
+answersOf d no-call = []
+answersOf d (answered {x = x} a e k) = cond (eqb (x .desk) d) (a .refusal ∷ answersOf d k) (answersOf d k)
+answersOf d (lent {x = x} n e k) = cond (eqb (x .desk) d) (n ∷ answersOf d k) (answersOf d k)
+
+-- are those that the definitions give
+are-answers : (d : ℕ) {b c : Board} {xs : List Sent} (k : Calls reportOf b xs c) → answersOf d k ≡ answersTo d b xs
+unfolding answersOf answersTo
+are-answers d no-call = refl
+are-answers d (answered {x = x} {xs = xs} a e k) =
+    rw (are-answers d k) (ap (λ y. cond (eqb (x .desk) d) (y .refusal ∷ answersTo d (y .board) xs) (answersTo d (y .board) xs)) e)
+are-answers d (lent {b = b} {c = c} {x = x} {xs = xs} n e k) =
+    rw (are-answers d k) (λ i. cond (eqb (x .desk) d) (e .1 i ∷ answersTo d (e .0 i) xs) (answersTo d (e .0 i) xs))
 
 are-lines : {b c : Board} {ls : List (List ℕ)} → Calls reportLine b ls c → c ≡ reportLines b ls
 unfolding reportLines
@@ -364,35 +394,48 @@ are-lines no-call = refl
 are-lines (answered {xs = ls} a e k) = are-lines k ∙ ap (λ x. reportLines (x .board) ls) e
 are-lines (lent {xs = ls} n e k) = are-lines k ∙ ap (λ b. reportLines b ls) (e .0)
 
--- a board opened with an aerodrome and runways: `open`
-module _ (aerodrome : List ℕ) (count : ℕ) (runways : List Runway) (o : Answer) (opened : o ≡ opening aerodrome count runways) (taken : o .refusal ≡ 0) where
-  was-taken : opening aerodrome count runways ≡ answer 0 (o .board)
+-- a board opened with an aerodrome, runways and their owners: `open`
+module _ (aerodrome : List ℕ) (count : ℕ) (runways : List Runway) (owners : List ℕ) (o : Answer) (opened : o ≡ opening aerodrome count runways owners)
+    (taken : o .refusal ≡ 0) where
+  was-taken : opening aerodrome count runways owners ≡ answer 0 (o .board)
   was-taken = sym opened ∙ (λ i. record { refusal = taken i; board = o .board })
 
-  -- "Each runway then shows": of the valid reports that name it the one observed last, among equal times the first to arrive
-  pub each-shows : {rs : List Row} {c : Board} → Calls report (o .board) rs c → (i : ℕ) → i < count → Shows (getD runways i blankRunway) rs (shownAt c i)
-  each-shows {rs} k i l =
-      subst (λ c. Shows (getD runways i blankRunway) rs (shownAt c i)) (sym (are-reports k))
-      (Board.runway-shows aerodrome count runways (o .board) was-taken rs i l)
+  -- "Each runway then shows": of the valid reports that name it the one observed last, among equal times the first to arrive; "a report from the wrong desk or
+  -- no desk counts as not valid"
+  pub each-shows : {xs : List Sent} {c : Board} → Calls reportOf (o .board) xs c → (i : ℕ) → i < count
+      → Shows (getD runways i blankRunway) (getD owners i 0) xs (shownAt c i)
+  each-shows {xs} k i l =
+      subst (λ c. Shows (getD runways i blankRunway) (getD owners i 0) xs (shownAt c i)) (sym (are-reports k))
+      (Board.runway-shows aerodrome count runways owners (o .board) was-taken xs i l)
 
   -- "with none it shows nothing"
-  pub none-shows-nothing : {rs : List Row} {c : Board} → Calls report (o .board) rs c → (i : ℕ) → i < count
-      → ((r : Row) → r isIn rs → ReportFor (getD runways i blankRunway) r → ⊥) → shownAt c i ≡ nothing
-  none-shows-nothing k i l h = shows-one (getD runways i blankRunway) (each-shows k i l) (shows-none h)
+  pub none-shows-nothing : {xs : List Sent} {c : Board} → Calls reportOf (o .board) xs c → (i : ℕ) → i < count
+      → ((x : Sent) → x isIn xs → ReportFor (getD runways i blankRunway) (getD owners i 0) x → ⊥) → shownAt c i ≡ nothing
+  none-shows-nothing k i l h = shows-one (getD runways i blankRunway) (getD owners i 0) (each-shows k i l) (shows-none h)
 
   -- the same reports in another order, no two different valid ones for a runway with the same time
-  module _ {xs ys : List Row} (moved : List·Permᴰ xs ys) (apart : (i : ℕ) → i < count → Apart (getD runways i blankRunway) xs) {b c : Board}
-      (first : Calls report (o .board) xs b) (second : Calls report (o .board) ys c) where
+  module _ {xs ys : List Sent} (moved : List·Permᴰ xs ys) (apart : (i : ℕ) → i < count → Apart (getD runways i blankRunway) (getD owners i 0) xs) {b c : Board}
+      (first : Calls reportOf (o .board) xs b) (second : Calls reportOf (o .board) ys c) where
     -- leave the same board
     pub same-board : b ≡ c
-    same-board = are-reports first ∙ (Board.order-free aerodrome count runways (o .board) was-taken xs ys moved apart ∙ sym (are-reports second))
+    same-board = are-reports first ∙ (Board.order-free aerodrome count runways owners (o .board) was-taken xs ys moved apart ∙ sym (are-reports second))
 
     -- "with the same heading details, items, plain language and buffer length they give the same notice, byte for byte, or the same refusal": `write_board`
     pub same-notice : {d : Details} {i : Items} {l : Language} {x₀ x y₀ y : List ℕ} {v w : Written} → WroteBoard b d i l x₀ x v → WroteBoard c d i l y₀ y w
         → length x₀ ≡ length y₀ → (v ≡ w) × (take (v .length) x ≡ take (w .length) y)
     same-notice {d} {i} {l} {x₀} {x} {y₀} {y} {v} {w} p q e = BoardNotice.one-notice (subst (λ a. WroteBoard a d i l x₀ x v) same-board p) q e
 
--- of the desk: a line opens a board exactly if it is the text of an aerodrome and runways that opening takes, with that board: `open_line`
+  -- request 1: "Two runs in which only the other desk's reports differ must give a desk the same answers to its reports and the same rows for its runways": for
+  -- every desk d and whatever the others, or no desk, send and whenever. "the notice's heading time and length and refusals 14 and 21 may still depend on both"
+  pub isolated : (d : ℕ) {xs ys : List Sent} {b c : Board} (first : Calls reportOf (o .board) xs b) (second : Calls reportOf (o .board) ys c)
+      → from d xs ≡ from d ys → (answersOf d first ≡ answersOf d second) × ((i : ℕ) → getD owners i 0 ≡ d → rowAt b i ≡ rowAt c i)
+  isolated d {xs} {ys} first second same =
+      let (answers, rows) = Board.isolation aerodrome count runways owners (o .board) was-taken d xs ys same in (
+        are-answers d first ∙ (answers ∙ sym (are-answers d second)),
+        λ i e. ap (λ z. rowAt z i) (are-reports first) ∙ (rows i e ∙ ap (λ z. rowAt z i) (sym (are-reports second))),
+      )
+
+-- of the desk: a line opens a board exactly if it is the text of an aerodrome, runways and owners that opening takes, with that board: `open_line`
 pub opened-by-line : (l : List ℕ) (a : Answer) (b : Board) → a ≡ openingLine l → (a ≡ answer 0 b) ↔ Opens l b
 opened-by-line l a b e = rw e (line-opens l b)
 
@@ -400,15 +443,15 @@ opened-by-line l a b e = rw e (line-opens l b)
 pub refused-line : (l : List ℕ) (a : Answer) → a ≡ openingLine l → ((b : Board) → Opens l b → ⊥) → a ≡ answer wrongBoard blankBoard
 refused-line l a e none = e ∙ no-opening l none
 
--- the board after any list of row lines is that after the rows that the lines tell: `report_line`
+-- the board after any list of row lines is that after the reports that the lines tell: `report_line`
 pub lines-are-reports : {b c : Board} {ls : List (List ℕ)} → Calls reportLine b ls c
-    → ((rs : List Row) × RowsTold ls rs) × ((rs : List Row) → RowsTold ls rs → c ≡ reports b rs)
-lines-are-reports {b} {c} {ls} k = (lines-tell ls, λ rs t. are-lines k ∙ lines-report b t)
+    → ((xs : List Sent) × ReportsTold ls xs) × ((xs : List Sent) → ReportsTold ls xs → c ≡ reports b xs)
+lines-are-reports {b} {c} {ls} k = (lines-tell ls, λ xs t. are-lines k ∙ lines-report b t)
 
 -- and at the end the desk prints the rows that this board shows: `desk`, in a buffer of three bytes for each byte of the input and 1,186 more
-pub desk-prints : (m l : List ℕ) (ls : List (List ℕ)) (b : Board) (rs : List Row) → lines m ≡ l ∷ ls → Opens l b → RowsTold ls rs
+pub desk-prints : (m l : List ℕ) (ls : List (List ℕ)) (b : Board) (xs : List Sent) → lines m ≡ l ∷ ls → Opens l b → ReportsTold ls xs
     → {before after : List ℕ} {n : ℕ} → 3 * length m + 1186 ≤ length before → Put 0 (deskText m) before after n
-    → take n after ≡ printed (bytes "OPEN") ++ (answerLines b ls ++ shownRows places (reports b rs))
-desk-prints m l ls b rs e o t {before} room p =
+    → take n after ≡ printed (bytes "OPEN") ++ (answerLines b ls ++ shownRows places (reports b xs))
+desk-prints m l ls b xs e o t {before} room p =
     let (n, holds) = Desk.desk-whole m room p in
-    rw (n, holds) (take-front (deskText m) (drop (length (deskText m)) before) ∙ Desk.desk-prints m l ls b rs e (line-opens l b .1 o) t)
+    rw (n, holds) (take-front (deskText m) (drop (length (deskText m)) before) ∙ Desk.desk-prints m l ls b xs e (line-opens l b .1 o) t)

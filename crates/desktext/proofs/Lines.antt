@@ -1,17 +1,21 @@
 -- What the proofs of the desk's lines need.
-use Prim.Native.Nat.{ℕ, zero, suc, _<_, _≤_}
+use Prim.Native.Nat.{ℕ, zero, suc, _+_, _<_, _≤_}
 use mathlib.Core.Path.{_≡_, refl, sym, _∙_, ap}
 use mathlib.Core.List.{List, [], _∷_, _++_}
 use mathlib.Core.Bool.{cond, Bool, true, false}
-use lib.ListN.{length, take, drop}
-use lib.Seq.{take-all}
+use lib.ListN.{length, take, drop, getD, drop-of-length-le}
+use lib.Seq.{take-all, drop-cons}
+use native.Mathlib.Numerals.{add-one}
 use borrow.Author.Tests.{ne-eqb, le-leb}
 use native.Mathlib.Omega.{arith}
 use Rattle.text.specs.Choice.{_and_}
 use Rattle.text.specs.Piece.{canonical, end}
 use Rattle.text.specs.Read.{Got, misfit, got, guard, andThen, whole}
-use Rattle.text.specs.Names.{isLetter, readCount}
-use Rattle.text.specs.Arrays.{pad}
+use Rattle.text.specs.Names.{isLetter, isSpace, readCount}
+use Rattle.text.specs.Numbers.{readDigits}
+use Rattle.text.specs.declared.Found.{Found}
+use Rattle.text.specs.Code.Held.{Held, none}
+use Rattle.text.specs.Laws.Held.{missed}
 use Rattle.text.specs.Laws.Base.{true-false}
 use Rattle.text.specs.Laws.Put.{canonical-append}
 use Rattle.row.specs.declared.Row.{Row}
@@ -28,9 +32,9 @@ use Rattle.text.specs.Lines.{longest}
 use Rattle.board.specs.declared.Runway.{Runway}
 use Rattle.board.specs.declared.Board.{Board}
 use Rattle.desktext.specs.declared.RunwayList.{RunwayList}
-use Rattle.board.specs.Board.{places, blankRunway, isAerodrome, validList, noRows, answer, opening, refusedOpening}
+use Rattle.board.specs.Board.{isAerodrome, validList, validOwners, validOpening, fresh, answer, opening, refusedOpening}
 use Rattle.board.specs.Report.{report}
-use Rattle.desktext.specs.Line.{readRunways, readOpening, listAnswer, openingRead, openingLine, reportRead, reportLine, shownText}
+use Rattle.desktext.specs.Line.{readRunways, readOpening, listOf, listAnswer, openingWith, openingRead, openingLine, readSender, reportRead, reportLine, shownText}
 use Rattle.board.specs.Laws.Aerodrome.{aerodrome-fits}
 
 -- the first n bytes of a class, read as a part of their own
@@ -49,11 +53,11 @@ count-split p (suc n) (x ∷ m) = go (p x) (readCount p n (take n m)) refl (coun
     go true (got a (y ∷ k)) q e = rw (e, q)
 
 -- a list of no runway opens nothing
-none-opens : (a : List ℕ) (ws : List Runway) → opening a 0 ws ≡ refusedOpening
-unfolding opening validList _and_
-none-opens a ws = go (isAerodrome a)
+none-opens : (a : List ℕ) (ws : List Runway) (os : List ℕ) → opening a 0 ws os ≡ refusedOpening
+unfolding opening validOpening validList _and_
+none-opens a ws os = go (isAerodrome a)
   where
-    go : (t : Bool) → cond (t and false) (answer 0 (record { aerodrome = a; count = 0; runways = ws; rows = noRows })) refusedOpening ≡ refusedOpening
+    go : (t : Bool) → cond ((t and false) and validOwners 0 os) (answer 0 (fresh a 0 ws os)) refusedOpening ≡ refusedOpening
     go true = refl
     go false = refl
 
@@ -62,7 +66,7 @@ module _ (line : List ℕ) where
   abbrev front : Got (List ℕ)
   front = whole (readAerodrome (take aerodromeSize line))
 
-  abbrev rest : Got (List Runway)
+  abbrev rest : Got (List (Runway × ℕ))
   rest = readRunways (drop aerodromeSize line)
 
   split : openingLine line ≡ openingRead (whole (andThen (andThen front (λ a _. got a (drop aerodromeSize line))) (λ a k. andThen (readRunways k) (λ ws r. got (a, ws) r))))
@@ -81,38 +85,69 @@ module _ (line : List ℕ) where
   unfolding isAerodrome isLetters _and_
   too-short h = no-aerodrome (aerodrome-fits (take aerodromeSize line) ∙ (ap isAerodrome (take-all aerodromeSize line (omega arith)) ∙ rw (ne-eqb (length line) aerodromeSize (omega arith))))
 
-  pub with-aerodrome : (a : AerodromeRead) → a ≡ aerodromeAnswer front → a .fits ≡ true → (l : RunwayList) → l ≡ listAnswer (whole rest) → opening (a .aerodrome) (l .count) (l .runways) ≡ openingLine line
+  pub with-aerodrome : (a : AerodromeRead) → a ≡ aerodromeAnswer front → a .fits ≡ true → (l : RunwayList) → l ≡ listAnswer (whole rest)
+      → openingWith (a .aerodrome) l ≡ openingLine line
   with-aerodrome a p e l q = rw (p, q) (sym (split ∙ go front (ap (λ (x : AerodromeRead). x .fits) (sym p) ∙ e)))
     where
-      on : (a : List ℕ) (h : Got (List Runway)) → openingRead (whole (andThen h (λ ws r. got (a, ws) r))) ≡ opening a (listAnswer (whole h) .count) (listAnswer (whole h) .runways)
-      on a misfit = sym (none-opens a (pad places blankRunway []))
+      on : (a : List ℕ) (h : Got (List (Runway × ℕ))) → openingRead (whole (andThen h (λ ws r. got (a, ws) r))) ≡ openingWith a (listAnswer (whole h))
+      on a misfit = sym (none-opens a (listOf [] .runways) (listOf [] .owners))
       on a (got ws []) = refl
-      on a (got ws (x ∷ k)) = sym (none-opens a (pad places blankRunway []))
+      on a (got ws (x ∷ k)) = sym (none-opens a (listOf [] .runways) (listOf [] .owners))
 
       go : (g : Got (List ℕ)) → aerodromeAnswer g .fits ≡ true
           → openingRead (whole (andThen (andThen g (λ a _. got a (drop aerodromeSize line))) (λ a k. andThen (readRunways k) (λ ws r. got (a, ws) r))))
-          ≡ opening (aerodromeAnswer g .aerodrome) (listAnswer (whole rest) .count) (listAnswer (whole rest) .runways)
+          ≡ openingWith (aerodromeAnswer g .aerodrome) (listAnswer (whole rest))
       go misfit e = true-false (sym e)
       go (got a r) e = on a rest
 
--- the line of a report
-module _ (b : Board) (line : List ℕ) where
-  module _ (h : length line ≤ longest) (r : RowRead) (e : r ≡ rowAnswer (wholeRow line)) where
-    pub no-row : (r .refusal ≡ 0 → ⊥) → answer noRow b ≡ reportLine b line
-    unfolding reportLine
-    no-row z = rw (le-leb (length line) longest h) (go (wholeRow line) (λ k. z (ap (λ (x : RowRead). x .refusal) e ∙ k)))
-      where
-        go : (g : Got Row) → (rowAnswer g .refusal ≡ 0 → ⊥) → answer noRow b ≡ reportRead b g
-        go misfit z = refl
-        go (got r k) z = absurd (z refl)
+-- the start of a row line
+module _ (m : List ℕ) where
+  pub no-digit : readDigits 1 m ≡ misfit → readSender m ≡ misfit
+  unfolding readSender
+  no-digit e = rw e
 
-    pub row-reported : r .refusal ≡ 0 → report b (r .row) ≡ reportLine b line
-    unfolding reportLine
-    row-reported z = rw (le-leb (length line) longest h, e) (go (wholeRow line) (ap (λ (x : RowRead). x .refusal) (sym e) ∙ z))
-      where
-        go : (g : Got Row) → rowAnswer g .refusal ≡ 0 → report b (rowAnswer g .row) ≡ reportRead b g
-        go misfit z = absurd (omega arith)
-        go (got r k) z = refl
+  pub space-missing : (i : ℕ) → i < length m → (getD m i 0 ≡ 32 → ⊥) → readCount isSpace 1 (drop i m) ≡ misfit
+  unfolding readCount
+  space-missing i h e = rw (drop-cons m i 0 h, ne-eqb (getD m i 0) 32 e)
+
+  pub space-past : (i : ℕ) → length m ≤ i → readCount isSpace 1 (drop i m) ≡ misfit
+  unfolding readCount
+  space-past i h = rw (drop-of-length-le m h)
+
+  module _ (d : Found) (e : readDigits 1 m ≡ got (d .value) (drop (d .next) m)) where
+    pub no-start : readCount isSpace 1 (drop (d .next) m) ≡ misfit → Held m (readSender m) none
+    unfolding readSender
+    no-start f = missed (rw (e, f))
+
+    pub starts : d .next < length m → getD m (d .next) 0 ≡ 32 → Held m (readSender m) (record { fits = true; value = d .value; next = d .next + 1 })
+    unfolding readSender readCount
+    starts h s = record { within = omega arith; says = rw (e, add-one, drop-cons m (d .next) 0 h, s); blank = refl }
+
+-- what stands behind it
+module _ (b : Board) (desk : ℕ) (rest : List ℕ) (r : RowRead) (e : r ≡ rowAnswer (wholeRow rest)) where
+  pub no-row : (r .refusal ≡ 0 → ⊥) → answer noRow b ≡ reportRead b desk (wholeRow rest)
+  no-row z = go (wholeRow rest) (λ k. z (ap (λ (x : RowRead). x .refusal) e ∙ k))
+    where
+      go : (g : Got Row) → (rowAnswer g .refusal ≡ 0 → ⊥) → answer noRow b ≡ reportRead b desk g
+      go misfit z = refl
+      go (got r k) z = absurd (z refl)
+
+  pub row-reported : r .refusal ≡ 0 → report b desk (r .row) ≡ reportRead b desk (wholeRow rest)
+  row-reported z = rw e (go (wholeRow rest) (ap (λ (x : RowRead). x .refusal) (sym e) ∙ z))
+    where
+      go : (g : Got Row) → rowAnswer g .refusal ≡ 0 → report b desk (rowAnswer g .row) ≡ reportRead b desk g
+      go misfit z = absurd (omega arith)
+      go (got r k) z = refl
+
+-- the line of a report
+module _ (b : Board) (line : List ℕ) (h : length line ≤ longest) where
+  pub line-started : {d : ℕ} {rest : List ℕ} → readSender line ≡ got d rest → reportRead b d (wholeRow rest) ≡ reportLine b line
+  unfolding reportLine
+  line-started e = rw (le-leb (length line) longest h, e)
+
+  pub line-unstarted : readSender line ≡ misfit → answer noRow b ≡ reportLine b line
+  unfolding reportLine
+  line-unstarted e = rw (le-leb (length line) longest h, e)
 
 -- the line of a row shown
 pub shown-line : (r : Row) → validRow r ≡ true → shownText r ≡ canonical (rowPieces r) ++ (10 ∷ [])

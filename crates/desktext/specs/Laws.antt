@@ -1,3 +1,4 @@
 pub mod Line
 pub mod Desk
 pub mod Pieces
+pub mod Desks

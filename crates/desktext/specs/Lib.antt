@@ -2,7 +2,9 @@
 -- the checker evaluates.
 pub mod Line
 pub mod Desk
+pub mod Desks
 pub mod Pieces
+pub mod Code
 pub mod Laws
 pub mod Theorems
 pub mod LineTables

@@ -20,10 +20,12 @@ use Rattle.rowtext.specs.Text.{middlePieces, widthPieces, rowPieces}
 use Rattle.rowtext.specs.Reading.{readFull, readShort, readWidth, readRow}
 use Rattle.frontlines.specs.Letters.{isLetters}
 use Rattle.frontlines.specs.Heading.{readAerodrome}
-use Rattle.board.specs.Board.{isBlankRunway, comesBefore, rises, rising, isAerodrome, validList, names, fitsPlace, fitPlaces, validPlaces, validBoard, opening}
-use Rattle.board.specs.Report.{placeOf, isNews, report}
-use Rattle.desktext.specs.Line.{readSpaced, readOpening, openingLine, reportLine, shownText}
-use Rattle.desktext.specs.Desk.{answerLine, shownRows, answersText, deskText}
+use Rattle.board.specs.Board.{isBlankRunway, comesBefore, rises, rising, isAerodrome, validList, names, fitsPlace, fitPlaces, validPlaces, isDesk, validOwners}
+use Rattle.board.specs.Board.{validOpening, validBoard, blankBoard, opening}
+use Rattle.board.specs.Tables.{holding, left}
+use Rattle.board.specs.Report.{placeOf, isNews, refusal, report}
+use Rattle.desktext.specs.Line.{readSpaced, readOwner, readOwned, readOpening, openingLine, readSender, reportLine, shownText}
+use Rattle.desktext.specs.Desk.{answerLine, shownRows, answersText, deskText, reportLines, deskBoard}
 use Rattle.desktext.specs.Pieces.{waiting, keeping, over, mostKept, startState, afterLine, lineAnswer, endAnswer, withoutReturn, afterByte, byteAnswer}
 use Rattle.desktext.specs.Pieces.{fedState, fedText, lastStanding, lastText, finishText, piecesText}
 use Rattle.desktext.specs.Theorems.{pieces as whole}
@@ -39,43 +41,50 @@ fed ps = piecesText startState ps
 
 -- a row with n spaces behind its time, ended by CR LF, and an empty line
 abbrev spaced : ℕ → List (List ℕ)
-spaced n = text ("XQAA 07L" ∷ []) ∷ (bytes "01120610" ++ replicate n 32) ∷ (bytes "07L 6/6/6 DRY/DRY/DRY" ++ (13 ∷ 10 ∷ 10 ∷ [])) ∷ []
+spaced n = text ("XQAA 07L/1" ∷ []) ∷ (bytes "1 01120610" ++ replicate n 32) ∷ (bytes "07L 6/6/6 DRY/DRY/DRY" ++ (13 ∷ 10 ∷ 10 ∷ [])) ∷ []
 
 pub record Inputs : Type 0 where
   -- two reports, and one that is not later than the row shown
-  reports : deskText (text ("XQAA 07L 07R" ∷ "01120610 07L 3/5/5 75/25/NR 12/NR/NR DRY SNOW/FROST/DRY" ∷ "01120640 07R  6/6/6 NR/NR/NR NR/NR/NR DRY/DRY/DRY"
-      ∷ "01120610 07L 6/6/6 DRY/DRY/DRY" ∷ []))
+  reports : deskText (text ("XQAA 07L/1 07R/2" ∷ "1 01120610 07L 3/5/5 75/25/NR 12/NR/NR DRY SNOW/FROST/DRY"
+      ∷ "2 01120640 07R  6/6/6 NR/NR/NR NR/NR/NR DRY/DRY/DRY" ∷ "1 01120610 07L 6/6/6 DRY/DRY/DRY" ∷ []))
       ≡ text ("OPEN" ∷ "0" ∷ "0" ∷ "20" ∷ "01120610 07L 3/5/5 75/25/NR 12/NR/NR DRY SNOW/FROST/DRY" ∷ "01120640 07R 6/6/6 DRY/DRY/DRY" ∷ [])
   -- the rows are shown in board order, whatever their times and the order of the reports
-  order : deskText (text ("XQAA 07L 07R" ∷ "01120610 07R 6/6/6 DRY/DRY/DRY" ∷ "01120640 07L 6/6/6 DRY/DRY/DRY" ∷ []))
+  order : deskText (text ("XQAA 07L/1 07R/2" ∷ "2 01120610 07R 6/6/6 DRY/DRY/DRY" ∷ "1 01120640 07L 6/6/6 DRY/DRY/DRY" ∷ []))
       ≡ text ("OPEN" ∷ "0" ∷ "0" ∷ "01120640 07L 6/6/6 DRY/DRY/DRY" ∷ "01120610 07R 6/6/6 DRY/DRY/DRY" ∷ [])
   -- an opening that is refused: nothing else is printed
-  refused : deskText (text ("XQAA 07L  07R" ∷ "01120610 07L 6/6/6 DRY/DRY/DRY" ∷ [])) ≡ text ("REFUSED 17" ∷ [])
+  refused : deskText (text ("XQAA 07L/1  07R/2" ∷ "1 01120610 07L 6/6/6 DRY/DRY/DRY" ∷ [])) ≡ text ("REFUSED 17" ∷ [])
   empty : deskText [] ≡ text ("REFUSED 17" ∷ [])
-  blank : deskText (text ("" ∷ "XQAA 07L" ∷ [])) ≡ text ("REFUSED 17" ∷ [])
+  blank : deskText (text ("" ∷ "XQAA 07L/1" ∷ [])) ≡ text ("REFUSED 17" ∷ [])
   -- the first line and the last may lack their end
-  unended : deskText (bytes "XQAA 07L") ≡ text ("OPEN" ∷ [])
-  last : deskText (text ("XQAA 07L" ∷ []) ++ bytes "01120610 07L 6/6/6 DRY/DRY/DRY") ≡ text ("OPEN" ∷ "0" ∷ "01120610 07L 6/6/6 DRY/DRY/DRY" ∷ [])
+  unended : deskText (bytes "XQAA 07L/1") ≡ text ("OPEN" ∷ [])
+  last : deskText (text ("XQAA 07L/1" ∷ []) ++ bytes "1 01120610 07L 6/6/6 DRY/DRY/DRY") ≡ text ("OPEN" ∷ "0" ∷ "01120610 07L 6/6/6 DRY/DRY/DRY" ∷ [])
   -- every further line is a row line; CR LF ends it as LF does; with no row taken nothing is shown
-  lines : deskText (bytes "XQAA 07L" ++ (13 ∷ 10 ∷ []) ++ text ("" ∷ "01120610 07R 6/6/6 DRY/DRY/DRY" ∷ "01120610 07L 6/6/6 DRY/DRY/DRY)" ∷ []))
+  lines : deskText (bytes "XQAA 07L/1" ++ (13 ∷ 10 ∷ []) ++ text ("" ∷ "2 01120610 07R 6/6/6 DRY/DRY/DRY" ∷ "1 01120610 07L 6/6/6 DRY/DRY/DRY)" ∷ []))
       ≡ text ("OPEN" ∷ "5" ∷ "18" ∷ "5" ∷ [])
   -- in pieces: none, and empty ones
   no-piece : fed [] ≡ text ("REFUSED 17" ∷ [])
-  empty-pieces : fed ([] ∷ bytes "XQAA 0" ∷ [] ∷ bytes "7L" ∷ []) ≡ text ("OPEN" ∷ [])
+  empty-pieces : fed ([] ∷ bytes "XQAA 0" ∷ [] ∷ bytes "7L/1" ∷ []) ≡ text ("OPEN" ∷ [])
   -- a CR LF in two pieces, and one that is cut from its line
-  return-cut : fed ((bytes "XQAA 07L" ++ (13 ∷ [])) ∷ (10 ∷ bytes "01120610 07L 6/6/6 DRY") ∷ bytes "/DRY/DRY" ∷ (13 ∷ 10 ∷ []) ∷ [])
+  return-cut : fed ((bytes "XQAA 07L/1" ++ (13 ∷ [])) ∷ (10 ∷ bytes "1 01120610 07L 6/6/6 DRY") ∷ bytes "/DRY/DRY" ∷ (13 ∷ 10 ∷ []) ∷ [])
       ≡ text ("OPEN" ∷ "0" ∷ "01120610 07L 6/6/6 DRY/DRY/DRY" ∷ [])
   -- a CR that no LF follows is text: on the first line, and on a row line that lacks its end
-  return-alone : fed (bytes "XQAA 07L" ∷ (13 ∷ []) ∷ []) ∷ fed (text ("XQAA 07L" ∷ []) ∷ bytes "01120610 07L 6/6/6 DRY/DRY/DRY" ∷ (13 ∷ []) ∷ []) ∷ []
+  return-alone : fed (bytes "XQAA 07L/1" ∷ (13 ∷ []) ∷ []) ∷ fed (text ("XQAA 07L/1" ∷ []) ∷ bytes "1 01120610 07L 6/6/6 DRY/DRY/DRY" ∷ (13 ∷ []) ∷ []) ∷ []
       ≡ text ("REFUSED 17" ∷ []) ∷ text ("OPEN" ∷ "5" ∷ []) ∷ []
   -- the last line lacks its end
-  last-in-pieces : fed (text ("XQAA 07L" ∷ []) ∷ bytes "01120610 07L 6/6/6 DRY" ∷ bytes "/DRY/DRY" ∷ [])
+  last-in-pieces : fed (text ("XQAA 07L/1" ∷ []) ∷ bytes "1 01120610 07L 6/6/6 DRY" ∷ bytes "/DRY/DRY" ∷ [])
       ≡ text ("OPEN" ∷ "0" ∷ "01120610 07L 6/6/6 DRY/DRY/DRY" ∷ [])
   -- a line of 4,096 bytes and a CR, and one of 4,097, each in two pieces and with a line behind it
-  longest : fed (spaced 4067) ≡ text ("OPEN" ∷ "0" ∷ "5" ∷ "01120610 07L 6/6/6 DRY/DRY/DRY" ∷ [])
-  longer : fed (spaced 4068) ≡ text ("OPEN" ∷ "5" ∷ "5" ∷ [])
+  longest : fed (spaced 4065) ≡ text ("OPEN" ∷ "0" ∷ "5" ∷ "01120610 07L 6/6/6 DRY/DRY/DRY" ∷ [])
+  longer : fed (spaced 4066) ≡ text ("OPEN" ∷ "5" ∷ "5" ∷ [])
   -- an opening that is refused: nothing else is printed
-  refused-in-pieces : fed (text ("XQAA" ∷ []) ∷ text ("XQAA 07L" ∷ "01120610 07L 6/6/6 DRY/DRY/DRY" ∷ []) ∷ []) ≡ text ("REFUSED 17" ∷ [])
+  refused-in-pieces : fed (text ("XQAA" ∷ []) ∷ text ("XQAA 07L/1" ∷ "1 01120610 07L 6/6/6 DRY/DRY/DRY" ∷ []) ∷ []) ≡ text ("REFUSED 17" ∷ [])
+  -- two desks: neither takes the other's runway, whatever was observed when; the printed rows are bare
+  desks : deskText (text ("XQAA 07L/1 07R/2" ∷ "1 01120610 07L 6/6/6 DRY/DRY/DRY" ∷ "2 01120700 07L 6/6/6 DRY/DRY/DRY" ∷ "1 01120700 07R 6/6/6 DRY/DRY/DRY"
+      ∷ "3 01120700 07R 6/6/6 DRY/DRY/DRY" ∷ "2 01120640 07R 6/6/6 DRY/DRY/DRY" ∷ []))
+      ≡ text ("OPEN" ∷ "0" ∷ "22" ∷ "22" ∷ "23" ∷ "0" ∷ "01120610 07L 6/6/6 DRY/DRY/DRY" ∷ "01120640 07R 6/6/6 DRY/DRY/DRY" ∷ [])
+  -- the board after an input; blank where none is opened
+  kept : deskBoard (text ("XQAA 07L/1 07R/2" ∷ []) ++ bytes "1 01120610 07L 6/6/6 DRY/DRY/DRY") ≡ holding (left ∷ [])
+  kept-none : (deskBoard [] ≡ blankBoard) × (deskBoard (text ("XQAA 07L" ∷ "1 01120610 07L 6/6/6 DRY/DRY/DRY" ∷ [])) ≡ blankBoard)
   -- the desk's three phases, and how much of a line is kept
   phases : waiting ∷ keeping ∷ over ∷ mostKept ∷ [] ≡ 0 ∷ 1 ∷ 2 ∷ 4098 ∷ []
   -- nothing is held before the first piece
@@ -86,7 +95,8 @@ unfolding _and_ lines spell skip readText readMany readName readCount digits rea
     isContaminant isDeep isCoverage validCoverage leastDepth isReported validDepth validThird isBlankThird measurePieces readMeasure readCoverage
     readDescription thirdPieces readThird readGroup threeThat isBlankRow validRow isBare isSix isDry isShort middlePieces widthPieces rowPieces readFull
     readShort readWidth readRow isLetters readAerodrome isAerodrome isBlankRunway comesBefore rises rising validList names fitsPlace fitPlaces validPlaces
-    validBoard opening placeOf isNews report readSpaced readOpening openingLine reportLine shownText answerLine shownRows answersText deskText
+    isDesk validOwners validOpening validBoard opening placeOf isNews refusal report readSpaced readOwner readOwned readOpening openingLine readSender
+    reportLine shownText answerLine shownRows answersText deskText reportLines deskBoard
     afterLine lineAnswer endAnswer withoutReturn afterByte byteAnswer fedState fedText lastStanding lastText finishText piecesText flatten
 inputs = record {
   reports = refl;
@@ -102,9 +112,12 @@ inputs = record {
   return-cut = refl;
   return-alone = refl;
   last-in-pieces = refl;
-  longest = whole (spaced 4067);
-  longer = whole (spaced 4068);
+  longest = whole (spaced 4065);
+  longer = whole (spaced 4066);
   refused-in-pieces = refl;
+  desks = refl;
+  kept = refl;
+  kept-none = (refl, refl);
   phases = refl;
   begins = refl;
 }

@@ -1,27 +1,32 @@
 -- An input in pieces gives the text of the whole input; what the desk prints at the end, how long its text is, and what a buffer with room for it holds.
 use Prim.Native.Nat.{ℕ, zero, suc, _+_, _*_, _≤_}
-use mathlib.Core.Path.{_≡_, refl}
+use mathlib.Core.Path.{_≡_, refl, sym, _∙_, ap}
 use mathlib.Core.List.{List, [], _∷_, _++_, append-assoc, flatten}
 use mathlib.Core.Bool.{cond, Bool, true, false}
 use native.Mathlib.Omega.{arith}
 use lib.Dec.{eqb}
-use lib.ListN.{length, drop, length-append}
+use lib.ListN.{length, drop, getD, length-append}
 use Rattle.text.specs.Lines.{push, isReturn, lines}
 use Rattle.text.specs.Piece.{bytes}
 use Rattle.text.specs.Put.{Put}
 use Rattle.text.specs.Laws.Put.{whole-put, measured}
 use Rattle.text.specs.Laws.Sizes.{size, number-size}
-use Rattle.row.specs.declared.Row.{Row}
 use Rattle.board.specs.declared.Board.{Board}
-use Rattle.desktext.specs.Laws.Desk.{shown-size, no-opening, RowsTold, lines-report}
+use Rattle.desktext.specs.Laws.Desk.{shown-size, line-opens, no-opening, ReportsTold, lines-report}
 use Rattle.desktext.specs.Line.{openingLine, reportLine}
 use Rattle.board.specs.Board.{places, blankBoard, answer}
-use Rattle.board.specs.Report.{rowAt, reports}
+use Rattle.board.specs.declared.Sent.{Sent}
+use Rattle.board.specs.Report.{rowAt, ownerAt}
+use Rattle.board.specs.Laws.Alone.{Alike, alike-self}
+use Rattle.board.specs.Laws.Demand.{opened-fresh}
+use Rattle.board.specs.Runs.{reports}
 use Rattle.desktext.specs.Desk.{printed, answerLine, shownRows, answersText, refusedText, linesText, deskText, reportLines, deskBoard}
 use Rattle.desktext.specs.declared.Standing.{Standing}
 use Rattle.desktext.specs.declared.State.{State}
 use Rattle.desktext.specs.Pieces.{waiting, keeping, afterLine, lineAnswer, endAnswer, startState, begun, withoutReturn, afterByte, byteAnswer}
 use Rattle.desktext.specs.Pieces.{fedText, lastStanding, lastText, finishText, piecesText}
+use Rattle.desktext.specs.Desks.{linesFrom, linesAnswered}
+use Rattle.desktext.specs.Laws.Desks.{lines-alone, board-alone, owners-stay}
 use Rattle.desktext.specs.Laws.Pieces.{pieces-whole}
 use Rattle.desktext.specs.Laws.Line.{Opens}
 
@@ -34,28 +39,45 @@ unfoldable pub answerLines : Board → List (List ℕ) → List ℕ
 answerLines b [] = []
 answerLines b (l ∷ ls) = answerLine (reportLine b l .refusal) ++ answerLines (reportLine b l .board) ls
 
--- behind them stand the rows that the board shows after the rows told
+-- behind them stand the rows that the board shows after the reports told
 answers-shown : (b : Board) (ls : List (List ℕ)) → answersText b ls ≡ answerLines b ls ++ shownRows places (reportLines b ls)
 unfolding answersText answerLines reportLines
 answers-shown b [] = refl
 answers-shown b (l ∷ ls) = rw (append-assoc, answers-shown (reportLine b l .board) ls)
 
--- so of an input whose first line opens the board b and whose other lines tell the rows rs the desk prints `OPEN`, the answers, and what `reports b rs` shows
-pub desk-prints : (m l : List ℕ) (ls : List (List ℕ)) (b : Board) (rs : List Row) → lines m ≡ l ∷ ls → openingLine l ≡ answer 0 b → RowsTold ls rs
-    → deskText m ≡ printed (bytes "OPEN") ++ (answerLines b ls ++ shownRows places (reports b rs))
+-- so of an input whose first line opens the board b and whose other lines tell the reports xs the desk prints `OPEN`, the answers, and what `reports b xs`
+-- shows
+pub desk-prints : (m l : List ℕ) (ls : List (List ℕ)) (b : Board) (xs : List Sent) → lines m ≡ l ∷ ls → openingLine l ≡ answer 0 b → ReportsTold ls xs
+    → deskText m ≡ printed (bytes "OPEN") ++ (answerLines b ls ++ shownRows places (reports b xs))
 unfolding deskText
-desk-prints m l ls b rs e o t = rw (e, o, answers-shown b ls, lines-report b t)
+desk-prints m l ls b xs e o t = rw (e, o, answers-shown b ls, lines-report b t)
 
 -- and keeps that board
-pub desk-keeps : (m l : List ℕ) (ls : List (List ℕ)) (b : Board) (rs : List Row) → lines m ≡ l ∷ ls → openingLine l ≡ answer 0 b → RowsTold ls rs
-    → deskBoard m ≡ reports b rs
+pub desk-keeps : (m l : List ℕ) (ls : List (List ℕ)) (b : Board) (xs : List Sent) → lines m ≡ l ∷ ls → openingLine l ≡ answer 0 b → ReportsTold ls xs
+    → deskBoard m ≡ reports b xs
 unfolding deskBoard
-desk-keeps m l ls b rs e o t = rw (e, o) (lines-report b t)
+desk-keeps m l ls b xs e o t = rw (e, o) (lines-report b t)
 
 -- where the first line opens none it keeps the blank one
 pub keeps-none : (m l : List ℕ) (ls : List (List ℕ)) → lines m ≡ l ∷ ls → ((b : Board) → Opens l b → ⊥) → deskBoard m ≡ blankBoard
 unfolding deskBoard
 keeps-none m l ls e none = rw (e, no-opening l none)
+
+-- "Two runs in which only the other desk's reports differ", said of inputs: the first line opens one board, and the lines of the desk d are the same, whatever
+-- stands on the others; then its lines get the same answers, and its places hold the same rows
+module _ (l : List ℕ) (b : Board) (opened : openingLine l ≡ answer 0 b) (d : ℕ) (ls ms : List (List ℕ)) (same : linesFrom d ls ≡ linesFrom d ms) where
+  start : Alike d b b
+  start = alike-self d b (let o = line-opens l b .0 opened in opened-fresh (o .aerodrome) (o .count) (o .runways) (o .owners) b (o .opened) .1)
+
+  pub line-answers : linesAnswered d b ls ≡ linesAnswered d b ms
+  line-answers = lines-alone d ls b b start ∙ (ap (linesAnswered d b) same ∙ sym (lines-alone d ms b b start))
+
+  pub line-rows : (m k : List ℕ) → lines m ≡ l ∷ ls → lines k ≡ l ∷ ms → (i : ℕ) → ownerAt b i ≡ d → rowAt (deskBoard m) i ≡ rowAt (deskBoard k) i
+  unfolding deskBoard
+  line-rows m k e f i o = rw (e, f, opened) (alone ls ∙ (ap (λ x. rowAt (reportLines b x) i) same ∙ sym (alone ms)))
+    where
+      alone : (zs : List (List ℕ)) → rowAt (reportLines b zs) i ≡ rowAt (reportLines b (linesFrom d zs)) i
+      alone zs = let s = board-alone d zs b b start in s .rows i (ap (λ os. getD os i 0) (owners-stay zs b) ∙ o)
 
 -- no more lines than bytes
 lines-few : (m : List ℕ) → length (lines m) ≤ length m

@@ -3,13 +3,16 @@
 ghost use mathlib.Core.Path.{_≡_};
 ghost use Rattle.text.specs.Put.{Put};
 ghost use Rattle.board.specs.Report.{rowAt};
-ghost use Rattle.desktext.specs.Line.{shownText, readSpaced, readRunways, listAnswer, openingLine, reportLine};
+ghost use Rattle.desktext.specs.Line.{shownText, readSpaced, readOwner, readOwned, readRunways, listAnswer, openingLine, readSender, reportRead, reportLine};
+ghost use Rattle.desktext.specs.Code.Held.{HeldOwned};
 ghost use Rattle.desktext.specs.Desk.{answerLine, shownRows, refusedText, deskText, deskBoard};
 ghost use Rattle.desktext.specs.Pieces.{keeping, standing, openedStanding, openedLine, afterLine, lineAnswer, endAnswer};
 ghost use Rattle.desktext.specs.Pieces.{startState, withoutReturn, fedState, fedText, lastStanding, lastText, finishText};
 ghost use lib.ListN.{length, take, drop, getD};
 ghost use Rattle.text.specs.Read.{misfit, whole};
 ghost use Rattle.runway.specs.Code.Held.{HeldRunway};
+ghost use Rattle.text.specs.Code.Held.{Held};
+ghost use Rattle.rowtext.specs.Reading.{wholeRow};
 ghost use Rattle.row.specs.Row.{blankRow};
 use board::Answer;
 use board::BLANK_RUNWAY;
@@ -17,6 +20,7 @@ use board::Board;
 use board::MOST_RUNWAYS;
 use board::PLACES;
 use board::Runway;
+use board::Sent;
 use board::open;
 use board::refused_opening;
 use board::updated;
@@ -32,18 +36,38 @@ use rowtext::read_row;
 use runway::NO_RUNWAY;
 use runway::RunwayFound;
 use runway::read_runway;
+use scan::digits;
+use scan::word;
+use text::Found;
 use text::LONGEST;
+use text::NONE;
 use text::place;
 use text::refusal;
 
 // ---- The desk's lines
 
-// Runways in their array, zeros past the count; none where the text does not fit.
+// Runways and their owners in their arrays, zeros past the count; none where the text does not fit.
 #[repr(C)]
 pub struct RunwayList {
     pub count: u8,
     pub runways: [Runway; 8],
+    pub owners: [u8; 8],
 }
+
+// A runway, its owner, and the place behind them.
+struct OwnedFound {
+    fits: bool,
+    runway: Runway,
+    owner: u8,
+    next: usize,
+}
+
+const NOT_OWNED: OwnedFound = OwnedFound {
+    fits: false,
+    runway: BLANK_RUNWAY,
+    owner: 0,
+    next: 0,
+};
 
 // One space and a runway at `i`.
 fn spaced_runway(s: &[u8], i: usize) -> RunwayFound
@@ -57,44 +81,82 @@ fn spaced_runway(s: &[u8], i: usize) -> RunwayFound
     NO_RUNWAY
 }
 
+// A slash and one digit at `i`.
+fn owner_at(s: &[u8], i: usize) -> Found
+    ensures { λ r. ⌜ Held (now (s .entry)) (readOwner (drop i (now (s .entry)))) r ⌝ }
+{
+    let slash = word(s, i, b"/", 0);
+    if !slash.fits {
+        return NONE;
+    }
+    digits(s, slash.next, 1)
+}
+
+// One space, a runway and its owner at `i`.
+fn owned_runway(s: &[u8], i: usize) -> OwnedFound
+    ensures { λ r. ⌜ HeldOwned (now (s .entry)) (readOwned (drop i (now (s .entry)))) r ⌝ }
+{
+    let w = spaced_runway(s, i);
+    if !w.fits {
+        return NOT_OWNED;
+    }
+    let o = owner_at(s, w.next);
+    if !o.fits {
+        return NOT_OWNED;
+    }
+    OwnedFound {
+        fits: true,
+        runway: Runway {
+            number: w.number,
+            side: w.side,
+        },
+        owner: o.value as u8,
+        next: o.next,
+    }
+}
+
 fn no_list() -> RunwayList
     ensures { λ r. ⌜ r ≡ listAnswer misfit ⌝ }
 {
     RunwayList {
         count: 0,
         runways: [BLANK_RUNWAY; 8],
+        owners: [0; 8],
     }
 }
 
-// The runways up to the end of the line, each read at its place.
+// The runways with their owners up to the end of the line, each read at its place.
 fn runway_list(s: &[u8]) -> RunwayList
     ensures { λ r. ⌜ r ≡ listAnswer (whole (readRunways (now (s .entry)))) ⌝ }
 {
     let mut runways = [BLANK_RUNWAY; 8];
+    let mut owners = [0; 8];
     let mut count: u8 = 0;
     let mut at: usize = 0;
     while at < s.len() {
         if MOST_RUNWAYS <= count {
             return no_list();
         }
-        let found = spaced_runway(s, at);
+        let found = owned_runway(s, at);
         if !found.fits {
             return no_list();
         }
-        let w = Runway {
-            number: found.number,
-            side: found.side,
-        };
+        let w = found.runway;
         runways[count as usize] = w;
+        owners[count as usize] = found.owner;
         count += 1;
         at = found.next;
     }
-    RunwayList { count, runways }
+    RunwayList {
+        count,
+        runways,
+        owners,
+    }
 }
 
 const AERODROME_SIZE: usize = 4;
 
-// The board that a line with the aerodrome and the runways, parted by one space, opens; 17 and the blank board for any other line.
+// The board that a line with the aerodrome and the owned runways, parted by one space, opens; 17 and the blank board for any other line.
 fn open_line(line: &[u8]) -> Answer
     ensures { λ a. ⌜ a ≡ openingLine (now (line .entry)) ⌝ }
 {
@@ -108,18 +170,55 @@ fn open_line(line: &[u8]) -> Answer
     let l = runway_list(&line[AERODROME_SIZE..]);
     let aerodrome = a.aerodrome;
     let runways = l.runways;
-    open(aerodrome, l.count, runways)
+    let owners = l.owners;
+    open(aerodrome, l.count, runways, owners)
 }
 
-// The report that a line is: 5 where it is no row or is over 4,096 bytes.
+// The desk that a row line starts with: one digit, and exactly one space.
+fn sender(line: &[u8]) -> Found
+    ensures { λ r. ⌜ Held (now (line .entry)) (readSender (now (line .entry))) r ⌝ }
+{
+    let d = digits(line, 0, 1);
+    if !d.fits {
+        return NONE;
+    }
+    let at = d.next;
+    if at < line.len() {
+        if line[at] == b' ' {
+            return Found {
+                fits: true,
+                value: d.value,
+                next: at + 1,
+            };
+        }
+    }
+    NONE
+}
+
+// The report of the row behind a line's start: 5 where there is no row.
+fn report_rest(b: Board, desk: u32, rest: &[u8]) -> Answer
+    ensures { λ a. ⌜ a ≡ reportRead b desk (wholeRow (now (rest .entry))) ⌝ }
+{
+    let read = read_row(rest);
+    if read.refusal == 0 {
+        let row = read.row;
+        return updated(b, Sent { desk, row });
+    }
+    Answer {
+        refusal: refusal::NO_ROW,
+        board: b,
+    }
+}
+
+// The report that a line is: 5 where it does not start with a desk, is no row behind that, or is over 4,096 bytes.
 fn report_line(b: Board, line: &[u8]) -> Answer
     ensures { λ a. ⌜ a ≡ reportLine b (now (line .entry)) ⌝ }
 {
     if line.len() <= LONGEST {
-        let read = read_row(line);
-        if read.refusal == 0 {
-            let r = read.row;
-            return updated(b, r);
+        let start = sender(line);
+        if start.fits {
+            let at = start.next;
+            return report_rest(b, start.value, &line[at..]);
         }
     }
     Answer {

@@ -9,11 +9,7 @@ use lib.Seq.{drop-cons}
 use Rattle.text.specs.Read.{Got, misfit, got, guard, andThen, whole}
 use Rattle.text.specs.Code.Held.{Held, none}
 use Rattle.text.specs.declared.Found.{Found}
-use Rattle.text.specs.Laws.Held.{got-of, misfit-of}
-
--- a misfit is answered by none
-pub missed : {m : List ℕ} {g : Got ℕ} → g ≡ misfit → Held m g none
-missed e = record { within = omega arith; says = e; blank = refl }
+use Rattle.text.specs.Laws.Held.{missed, got-of, misfit-of}
 
 -- an answer for a reading is one for an equal reading
 pub held-as : {m : List ℕ} {g k : Got ℕ} {f : Found} → g ≡ k → Held m k f → Held m g f

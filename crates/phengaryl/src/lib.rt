@@ -18,6 +18,7 @@ ghost use Rattle.boardnotice.specs.Writing.{WroteBoard};
 ghost use Rattle.boardnotice.specs.DeskNotice.{WroteDeskNotice};
 use board::Answer;
 use board::Board;
+use board::Sent;
 use board::open;
 use board::report;
 use board::valid_board;
@@ -127,18 +128,19 @@ pub extern "C" fn phengaryl_write_row(row: Row, out: &mut [u8]) -> usize
 // A board for the runways of an aerodrome, or 17. C hands over no array, so the aerodrome is lent and the list is a struct.
 #[no_mangle]
 pub extern "C" fn phengaryl_open(aerodrome: &[u8; 4], list: RunwayList) -> Answer
-    ensures { λ a. ⌜ a ≡ opening (now (aerodrome .entry)) (list .count) (list .runways) ⌝ }
+    ensures { λ a. ⌜ a ≡ opening (now (aerodrome .entry)) (list .count) (list .runways) (list .owners) ⌝ }
 {
     let runways = list.runways;
-    open(*aerodrome, list.count, runways)
+    let owners = list.owners;
+    open(*aerodrome, list.count, runways, owners)
 }
 
-// The board after a report.
+// The board after a report of a row by a desk.
 #[no_mangle]
-pub extern "C" fn phengaryl_report(board: Board, row: Row) -> Answer
-    ensures { λ a. ⌜ a ≡ report board row ⌝ }
+pub extern "C" fn phengaryl_report(board: Board, desk: u32, row: Row) -> Answer
+    ensures { λ a. ⌜ a ≡ report board desk row ⌝ }
 {
-    report(board, row)
+    report(board, Sent { desk, row })
 }
 
 // Whether a board keeps its rules.

@@ -84,3 +84,11 @@ notLater = 20
 -- "board holds no report"
 abbrev pub noReport : ℕ
 noReport = 21
+
+-- document 02, request 1: "runway belongs to the other desk"
+abbrev pub othersRunway : ℕ
+othersRunway = 22
+
+-- "no such desk"
+abbrev pub noDesk : ℕ
+noDesk = 23

@@ -48,7 +48,7 @@ pub const OUT_OF_RANGE: u8 = 15;
 // An observation contradicts itself.
 pub const CONTRADICTION: u8 = 16;
 
-// The aerodrome or the list of runways is wrong, or a board handed in breaks its rules.
+// The aerodrome, the list of runways or an owner is wrong, or a board handed in breaks its rules.
 pub const WRONG_BOARD: u8 = 17;
 
 // The runway is not on the board.
@@ -62,3 +62,9 @@ pub const NOT_LATER: u8 = 20;
 
 // The board holds no report.
 pub const NO_REPORT: u8 = 21;
+
+// The runway belongs to the other desk.
+pub const OTHERS_RUNWAY: u8 = 22;
+
+// There is no such desk.
+pub const NO_DESK: u8 = 23;

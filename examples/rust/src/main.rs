@@ -1,11 +1,11 @@
-//! A small terminal: keeps the board of an aerodrome while the inspection cars call in, and writes it as a notice.
+//! A small terminal: keeps the board of an aerodrome while two desks pass on what the inspection cars call in, and writes it as a notice.
 //!
-//!     terminal MODEL AERODROME RUNWAY... <REPORTS >NOTICE
+//!     terminal MODEL AERODROME RUNWAY/DESK... <REPORTS >NOTICE
 //!
-//! It is used and answers as examples/terminal.c. The runways stand in rising order, as 07L 07R. Reports are runway rows on standard input, one
-//! a line; lines end with LF or CR LF, and the last may lack its end. Each is answered on standard error: taken, with the row as the board
-//! shows it now, or refused. At the end the notice goes to standard output, with the heading details, items and plain language of the message
-//! in the file MODEL.
+//! It is used and answers as examples/terminal.c. The runways stand in rising order, each with the desk that owns it, 1 or 2, as 07L/1 07R/2.
+//! Reports are runway rows on standard input, one a line, each behind the digit of the desk that sends it and one space; lines end with LF or
+//! CR LF, and the last may lack its end. Each is answered on standard error: taken, with the row as the board shows it now, or refused. At the
+//! end the notice goes to standard output, with the heading details, items and plain language of the message in the file MODEL.
 //!
 //! The exit status is 0 where the notice is written, 1 where the board, the model or the notice is refused, and 2 for wrong use or where
 //! reading or writing fails. A refused report changes neither the board nor the status.
@@ -39,7 +39,7 @@ fn words(refusal: u8) -> &'static str {
         refusal::LINE_1_OR_2 => "line 1 or 2 (addresses, filing time and originator) is missing or wrong",
         refusal::LINE_3 => "line 3 (the heading) is missing or wrong",
         refusal::OUTLINE => "the outline of the message is wrong",
-        refusal::NO_ROW => "this is no valid runway row",
+        refusal::NO_ROW => "this is no valid runway row, or a report without a desk's digit",
         refusal::NINTH_ROW => "there are more than eight rows",
         refusal::RUNWAY_TWICE => "the same runway is reported twice",
         refusal::WRONG_ITEMS => "the awareness line is wrong",
@@ -49,10 +49,12 @@ fn words(refusal: u8) -> &'static str {
         refusal::NOT_LATEST_TIME => "the heading's time is not that of the latest row",
         refusal::INVALID_RECORD => "the record is not valid",
         refusal::BUFFER_TOO_SHORT => "the buffer is shorter than the text",
-        refusal::WRONG_BOARD => "the aerodrome or the list of runways is wrong",
+        refusal::WRONG_BOARD => "the aerodrome, the list of runways or an owner is wrong",
         refusal::NOT_ON_BOARD => "the runway is not on the board",
         refusal::NOT_LATER => "the report is not later than the row shown",
         refusal::NO_REPORT => "the board holds no report",
+        refusal::OTHERS_RUNWAY => "the runway belongs to the other desk",
+        refusal::NO_DESK => "there is no such desk",
         _ => "no refusal that a terminal meets",
     }
 }
@@ -64,25 +66,28 @@ fn read_model(path: &str) -> Result<Record, Stop> {
     Record::read(&message).map_err(|n| Stop::Refused("model", n))
 }
 
-/// A runway such as 07 or 07L. What is none becomes zeros, which the library refuses.
-fn runway_of(text: &str) -> Runway {
-    let (digits, side) = match text.as_bytes() {
-        [digits @ .., b'L'] => (digits, 1),
-        [digits @ .., b'C'] => (digits, 2),
-        [digits @ .., b'R'] => (digits, 3),
-        digits => (digits, 0),
+/// A runway and the desk that owns it, such as 07/1 or 07L/2. What is none becomes zeros, which the library refuses.
+fn runway_of(text: &str) -> (Runway, u8) {
+    let (digits, side, owner) = match text.as_bytes() {
+        [digits @ .., b'L', b'/', owner] => (digits, 1, owner),
+        [digits @ .., b'C', b'/', owner] => (digits, 2, owner),
+        [digits @ .., b'R', b'/', owner] => (digits, 3, owner),
+        [digits @ .., b'/', owner] => (digits, 0, owner),
+        _ => return Default::default(),
     };
-    match digits {
-        [tens @ b'0'..=b'9', ones @ b'0'..=b'9'] => Runway { number: 10 * (tens - b'0') + (ones - b'0'), side },
-        _ => Runway::default(),
+    match (digits, owner) {
+        ([tens @ b'0'..=b'9', ones @ b'0'..=b'9'], b'0'..=b'9') => {
+            (Runway { number: 10 * (tens - b'0') + (ones - b'0'), side }, owner - b'0')
+        }
+        _ => Default::default(),
     }
 }
 
 fn open_board(name: &str, runways: &[String]) -> Result<Board, Stop> {
-    let runways: Vec<Runway> = runways.iter().map(|text| runway_of(text)).collect();
+    let owned: Vec<(Runway, u8)> = runways.iter().map(|text| runway_of(text)).collect();
     // A name of another length becomes zeros, which the library refuses.
     let aerodrome = name.as_bytes().try_into().unwrap_or([0; 4]);
-    Board::open(&aerodrome, &runways).map_err(|n| Stop::Refused("board", n))
+    Board::open(&aerodrome, &owned).map_err(|n| Stop::Refused("board", n))
 }
 
 /// The next line without its end. Of an over-long one so much is kept that it is still over-long without a CR.
@@ -108,8 +113,12 @@ fn report_line(board: &mut Board, line: &[u8]) -> Result<Row, u8> {
     if line.len() > LONGEST_TEXT {
         return Err(refusal::NO_ROW);
     }
-    let row = Row::read(line)?;
-    board.report(&row)?;
+    let (digit, row) = match line {
+        [digit @ b'0'..=b'9', b' ', row @ ..] => (digit, row),
+        _ => return Err(refusal::NO_ROW),
+    };
+    let row = Row::read(row)?;
+    board.report(u32::from(digit - b'0'), &row)?;
     Ok(row)
 }
 
@@ -147,7 +156,7 @@ fn main() -> ExitCode {
     let done = match &arguments[..] {
         [model, aerodrome, runways @ ..] if !runways.is_empty() => run(model, aerodrome, runways),
         _ => {
-            let usage = "usage: terminal MODEL AERODROME RUNWAY... <REPORTS >NOTICE";
+            let usage = "usage: terminal MODEL AERODROME RUNWAY/DESK... <REPORTS >NOTICE";
             Err(io::Error::new(io::ErrorKind::InvalidInput, usage).into())
         }
     };

@@ -1,83 +1,47 @@
--- The answers of a report, case by case; a valid board's places lie within its array.
 use mathlib.Core.Path.{sym, _∙_}
-use native.Mathlib.Omega.{arith}
-use Rattle.board.specs.Laws.Rules.{board-few, report-17, report-19, report-18, report-20, report-0}
+use borrow.Author.Tests.{ne-eqb}
+use Rattle.board.specs.Report.{report}
+use Rattle.board.proofs.Answers.{took-within}
 use borrow.Author.Needs.{needs}
 use Rattle.board.proofs.report.Statement.{statement}
 use Rattle.board.proofs.report.Tie as tie
 
-valid-board-requires : tie.Need-valid-board-requires
-valid-board-requires c κs = search needs
-
-valid-row-requires : tie.Need-valid-row-requires
-valid-row-requires c κs = search needs
-
-cast-n : tie.Need-cast-n
-cast-n c = search needs
+cast-place-of : tie.Need-cast-place-of
+cast-place-of c = search needs
 
 place-of-requires : tie.Need-place-of-requires
 place-of-requires c κs = search needs
 
-mul-shown : tie.Need-mul-shown
-mul-shown c = search needs
-
-element-copy-out-shown : tie.Need-element-copy-out-shown
-element-copy-out-shown c = let h = board-few _ (sym (c .before .before .before .before .before .before .valid-board .ensures) ∙ c .before .before .before .before .before .if1 .taken) in omega arith
-
-is-news-requires : tie.Need-is-news-requires
-is-news-requires c κs = search needs
-
-mul-r : tie.Need-mul-r
-mul-r c = search needs
-
-element-set-from-r : tie.Need-element-set-from-r
-element-set-from-r c = let h = board-few _ (sym (c .before .before .before .before .before .before .before .before .before .valid-board .ensures) ∙ c .before .before .before .before .before .before .before .before .if1 .taken) in omega arith
+refusal-at-requires : tie.Need-refusal-at-requires
+refusal-at-requires c κs = search needs
 
 returns : tie.Need-returns
-returns c =
-    let a = c .before .before .before .before .before .before .before .before .before .before .args in
-    let good = sym (c .before .before .before .before .before .before .before .before .before .valid-board .ensures) ∙ c .before .before .before .before .before .before .before .before .if1 .taken in
-    let row = sym (c .before .before .before .before .before .before .before .valid-row .ensures) ∙ c .before .before .before .before .before .before .if2 .taken in
-    let place = c .before .before .before .before .place-of in
-    sym (report-0 (a .t1) (a .r) good row (place .result) (place .ensures) _ (c .before .before .before .if3 .taken) (sym (c .before .is-news .ensures) ∙ c .if4 .taken))
+unfolding report
+returns c = rw (← (c .before .refusal-at .ensures), ne-eqb _ 0 (c .if1 .taken))
+
+mul-r : tie.Need-mul-r
+mul-r c =
+    let a = c .before .before .before .before .before .before .args in
+    let w = took-within (a .b) (a .x .desk) (a .x .row) (sym (c .before .refusal-at .ensures) ∙ c .if1 .left) _ (c .before .before .place-of .ensures) in
+    search (needs, w)
+
+element-set-from-r : tie.Need-element-set-from-r
+element-set-from-r c =
+    let a = c .before .before .before .before .before .before .args in
+    took-within (a .b) (a .x .desk) (a .x .row) (sym (c .before .refusal-at .ensures) ∙ c .if1 .left) _ (c .before .before .place-of .ensures)
 
 returns-2 : tie.Need-returns-2
-returns-2 c =
-    let a = c .before .before .before .before .before .before .before .before .before .before .args in
-    let good = sym (c .before .before .before .before .before .before .before .before .before .valid-board .ensures) ∙ c .before .before .before .before .before .before .before .before .if1 .taken in
-    let row = sym (c .before .before .before .before .before .before .before .valid-row .ensures) ∙ c .before .before .before .before .before .before .if2 .taken in
-    let place = c .before .before .before .before .place-of in
-    sym (report-20 (a .t1) (a .r) good row (place .result) (place .ensures) _ (c .before .before .before .if3 .taken) (sym (c .before .is-news .ensures) ∙ c .if4 .left))
-
-returns-3 : tie.Need-returns-3
-returns-3 c =
-    let a = c .before .before .before .before .before .before .before .args in
-    let good = sym (c .before .before .before .before .before .before .valid-board .ensures) ∙ c .before .before .before .before .before .if1 .taken in
-    let row = sym (c .before .before .before .before .valid-row .ensures) ∙ c .before .before .before .if2 .taken in
-    let place = c .before .place-of in
-    sym (report-18 (a .t1) (a .r) good row (place .result) (place .ensures) (c .if3 .left))
-
-returns-4 : tie.Need-returns-4
-returns-4 c = sym (report-19 _ _ (sym (c .before .before .before .valid-board .ensures) ∙ c .before .before .if1 .taken) (sym (c .before .valid-row .ensures) ∙ c .if2 .left))
-
-returns-5 : tie.Need-returns-5
-returns-5 c = sym (report-17 _ _ (sym (c .before .valid-board .ensures) ∙ c .if1 .left))
+unfolding report
+returns-2 c = rw (← (c .before .refusal-at .ensures), c .if1 .left, ← (c .before .before .place-of .ensures))
 
 pub report-spec : {M : Type 1} → statement M
 report-spec =
     tie.close
     (tie.spec
-    valid-board-requires
-    valid-row-requires
-    cast-n
+    cast-place-of
     place-of-requires
-    mul-shown
-    element-copy-out-shown
-    is-news-requires
+    refusal-at-requires
+    returns
     mul-r
     element-set-from-r
-    returns
-    returns-2
-    returns-3
-    returns-4
-    returns-5)
+    returns-2)

@@ -40,14 +40,14 @@ use denote.Triple.Table.{entered, cited}
 use denote.Triple.Walked.{says, Stays, stay-none, walkOf, goes-none, Walks, ends-at, walked, walk-meets}
 use denote.Exit.{yes}
 use denote.Triple.Clauses.{ensured, lasts}
-use Rattle.board.specs.Report.{report as reported}
+use Rattle.board.specs.Report as told
 use Rattle.board.specs.declared.Board.{Board}
-use Rattle.row.specs.declared.Row.{Row}
+use Rattle.board.specs.declared.Sent.{Sent}
 use Rattle.board.specs.declared.Answer.{Answer}
 use Rattle.board.proofs.Board as B
 use Rattle.board.proofs.Board.Laws as B′
-use Rattle.row.proofs.Row as R
-use Rattle.row.proofs.Row.Laws as R′
+use Rattle.board.proofs.Sent as S
+use Rattle.board.proofs.Sent.Laws as S′
 use Rattle.board.proofs.Answer as T
 use Rattle.board.proofs.Answer.Laws as T′
 use Rattle.board.proofs.take_report as take
@@ -60,14 +60,18 @@ use Rattle.board.proofs.updated.Statement as stated
 use Rattle.board.proofs.updated.Code as code
 
 abbrev stayed : Stays (updated′.ended .signature .params) (updated′.ended .kept)
-stayed = (stay-none (λ _. B.the-row) yes, (stay-none (λ _. R.the-row) yes, tt))
+stayed = (stay-none (λ _. B.the-row) yes, (stay-none (λ _. S.the-row) yes, tt))
+
+-- the answer to a report
+abbrev reported : Board → Sent → Answer
+reported b x = told.report b (x .desk) (x .row)
 
 -- machine values
 abbrev bv : Board → Val
 bv h = LL.val B.the-type B′.the-laws h
 
-abbrev rv : Row → Val
-rv r = LL.val R.the-type R′.the-laws r
+abbrev rv : Sent → Val
+rv r = LL.val S.the-type S′.the-laws r
 
 abbrev tv : Answer → Val
 tv t = LL.val T.the-type T′.the-laws t
@@ -91,8 +95,8 @@ module _ {M : Type 1} (𝓤 : URA M) (H : Heap 𝓤) (A : Atoms 𝓤) (W : Given
       spelt ! B.the-row (Is B.the-row) (shows 𝓤 H A B.the-row) (LL.vals B.the-type B′.the-laws) (LL.tells B.the-type B′.the-laws) fullShare t vs l 0 $
       use1 W (‵ (fat fullShare B′.mir l 0 (bv t))) (W .laws .raw-at fullShare B′.mir l 0 (bv t)) $ frame ! $ done !)
 
-module _ {M : Type 1} (𝓤 : URA M) (H : Heap 𝓤) (A : Atoms 𝓤) (W : Given 𝓤 H A) (at-mem : Memory → SProp 𝓤) (run : Routine → Fun 𝓤) (h : Board) (r : Row) where
-  abbrev x : Board × (Row × Unit {0})
+module _ {M : Type 1} (𝓤 : URA M) (H : Heap 𝓤) (A : Atoms 𝓤) (W : Given 𝓤 H A) (at-mem : Memory → SProp 𝓤) (run : Routine → Fun 𝓤) (h : Board) (r : Sent) where
+  abbrev x : Board × (Sent × Unit {0})
   x = (h, (r, tt))
 
   abbrev at : List Val × (List Val × Unit {0})
@@ -101,11 +105,11 @@ module _ {M : Type 1} (𝓤 : URA M) (H : Heap 𝓤) (A : Atoms 𝓤) (W : Given
   abbrev Post : Val → SProp 𝓤
   Post = walkOf 𝓤 H A updated′.ended stayed (updated′.clauses 𝓤 H A at-mem run) .post ((tt, tt, tt, x, at), tt)
 
-  exits : (t : Answer) → t ≡ reported h r → Is B.the-row h (bv h ∷ []) → Is R.the-row r (rv r ∷ []) → Is T.the-row t (tv t ∷ []) → ent 𝓤 (sem 𝓤 H A (T.the-row .own t (tv t ∷ []))) (Post (tv t))
+  exits : (t : Answer) → t ≡ reported h r → Is B.the-row h (bv h ∷ []) → Is S.the-row r (rv r ∷ []) → Is T.the-row t (tv t ∷ []) → ent 𝓤 (sem 𝓤 H A (T.the-row .own t (tv t ∷ []))) (Post (tv t))
   exits t e gh gr gt =
       qed W (‵ (T.the-row .own t (tv t ∷ [])) ∷ []) ∵
       suffices ! _ (ends-at 𝓤 H A updated′.ended stayed (updated′.clauses 𝓤 H A at-mem run) W ((tt, tt, tt, x, at), tt) (tv t) t (tt, (tt, tt)) (tt, (tt, tt))) $ says ! e $
-      nothing ! $ owned ! R.the-row (Is R.the-row) ((LL.makes R.the-type R′.the-plain) 𝓤 H A) r _ gr $ fjoin ! $ owned ! B.the-row (Is B.the-row) ((LL.makes B.the-type B′.the-plain) 𝓤 H A) h _ gh $ fjoin ! $ nothing ! $ done !
+      nothing ! $ owned ! S.the-row (Is S.the-row) ((LL.makes S.the-type S′.the-plain) 𝓤 H A) r _ gr $ fjoin ! $ owned ! B.the-row (Is B.the-row) ((LL.makes B.the-type B′.the-plain) 𝓤 H A) h _ gh $ fjoin ! $ nothing ! $ done !
 
   -- what `take_report`'s triple binds outside: the local at l, lent for the lifetime ν under the name δ
   abbrev lent : ℕ → GName → RefT Board
@@ -114,9 +118,9 @@ module _ {M : Type 1} (𝓤 : URA M) (H : Heap 𝓤) (A : Atoms 𝓤) (W : Given
   abbrev to-take : ℕ → ℕ → GName → Take 𝓤 H A at-mem run .Ghost
   to-take l ν δ = (((ν ∷ [], tt), (fullShare, tt), tt, (lent l δ, (r, tt)), (vptr l 0 ∷ [], (rv r ∷ [], tt))), tt)
 
-  goes-take : (l ν : ℕ) (δ : GName) → ent 𝓤 (sep 𝓤 (A .lft (ν ∷ []) fullShare) (sep 𝓤 (sem 𝓤 H A (MutRef (named 0) (ν ∷ []) B.the-row .own (lent l δ) (vptr l 0 ∷ []))) (sem 𝓤 H A (R.the-row .own r (rv r ∷ []))))) (Take 𝓤 H A at-mem run .pre (to-take l ν δ))
+  goes-take : (l ν : ℕ) (δ : GName) → ent 𝓤 (sep 𝓤 (A .lft (ν ∷ []) fullShare) (sep 𝓤 (sem 𝓤 H A (MutRef (named 0) (ν ∷ []) B.the-row .own (lent l δ) (vptr l 0 ∷ []))) (sem 𝓤 H A (S.the-row .own r (rv r ∷ []))))) (Take 𝓤 H A at-mem run .pre (to-take l ν δ))
   goes-take l ν δ =
-      qed W (‵ (flft (ν ∷ []) fullShare) ∷ ‵ (MutRef (named 0) (ν ∷ []) B.the-row .own (lent l δ) (vptr l 0 ∷ [])) ∷ ‵ (R.the-row .own r (rv r ∷ [])) ∷ []) ∵
+      qed W (‵ (flft (ν ∷ []) fullShare) ∷ ‵ (MutRef (named 0) (ν ∷ []) B.the-row .own (lent l δ) (vptr l 0 ∷ [])) ∷ ‵ (S.the-row .own r (rv r ∷ [])) ∷ []) ∵
       nothing ! $ move ! (1 ∷ 0 ∷ []) $ join ! $ move ! (2 ∷ []) $ nothing ! $ move ! (1 ∷ 0 ∷ []) $ join ! $ move ! (2 ∷ 0 ∷ []) $ join ! $ move ! (1 ∷ 0 ∷ []) $ join ! $ frame ! $ done !
 
   abbrev Said : ℕ → Board → Type 0
@@ -125,11 +129,11 @@ module _ {M : Type 1} (𝓤 : URA M) (H : Heap 𝓤) (A : Atoms 𝓤) (W : Given
   module _ (C : Calls 𝓤 H) (Λ : Loops 𝓤 H) (fm : FmC 𝓤 H (W .laws) C) (known : Triple 𝓤 (C #board·take_report) (Take 𝓤 H A at-mem run)) where
     walk : ent 𝓤 (onEntry 𝓤 H A updated′.signature tt tt x at) (WpFn 𝓤 H C Λ code.function (bv h ∷ rv r ∷ []) Post)
     walk =
-        qed W (‵ ftrue ∷ ‵ (owns (B.the-row ∷ R.the-row ∷ []) x at) ∷ []) ∵ drop ! $ fsplit ! $ peeks ! B.the-row (Is B.the-row) (shows 𝓤 H A B.the-row) h (bv h ∷ []) (λ gh. move ! (1 ∷ []) $ fsplit ! $
-        peeks ! R.the-row (Is R.the-row) (shows 𝓤 H A R.the-row) r (rv r ∷ []) (λ gr. move ! (1 ∷ []) $ drop ! $ move ! (1 ∷ 0 ∷ []) $
+        qed W (‵ ftrue ∷ ‵ (owns (B.the-row ∷ S.the-row ∷ []) x at) ∷ []) ∵ drop ! $ fsplit ! $ peeks ! B.the-row (Is B.the-row) (shows 𝓤 H A B.the-row) h (bv h ∷ []) (λ gh. move ! (1 ∷ []) $ fsplit ! $
+        peeks ! S.the-row (Is S.the-row) (shows 𝓤 H A S.the-row) r (rv r ∷ []) (λ gr. move ! (1 ∷ []) $ drop ! $ move ! (1 ∷ 0 ∷ []) $
         enter ! C Λ code.function (bv h ∷ rv r ∷ []) _ $
         alloc1 ! (λ l₀. alloc1 ! (λ l₁. alloc1 ! (λ l₂. alloc1 ! (λ l₃. alloc1 ! (λ l₄. alloc1 ! (λ l₅. alloc1 ! (λ l₆. alloc0 ! $ params1 ! $
-        pass1 ! (init ! 10 refl (LL.lawful B.the-type B′.the-laws 𝓤 H A W .typed h _ gh .0)) $ pass1 ! (init ! 8 refl (LL.lawful R.the-type R′.the-laws 𝓤 H A W .typed r _ gr .0)) $ pass0 ! $
+        pass1 ! (init ! 10 refl (LL.lawful B.the-type B′.the-laws 𝓤 H A W .typed h _ gh .0)) $ pass1 ! (init ! 8 refl (LL.lawful S.the-type S′.the-laws 𝓤 H A W .typed r _ gr .0)) $ pass0 ! $
         -- [_6; …; _5; …; _4; …; _3; …; _2; …; _1; …; room for _0; …; what b and row own]
         assigns ! (of-opd ! (load ! (from ! (stop !)) (look ! 10 refl))) (from ! (stop !)) (init ! 6 refl (LL.lawful B.the-type B′.the-laws 𝓤 H A W .typed h _ gh .0)) $
         assigns ! (addr ! (from ! (stop !))) (from ! (stop !)) (init ! 2 refl (tt, tt)) $
@@ -161,14 +165,14 @@ module _ {M : Type 1} (𝓤 : URA M) (H : Heap 𝓤) (A : Atoms 𝓤) (W : Given
 module _ {M : Type 1} (𝓤 : URA M) (H : Heap 𝓤) (A : Atoms 𝓤) (W : Given 𝓤 H A) (at-mem : Memory → SProp 𝓤) (run : Routine → Fun 𝓤) where
   updated-walks : (C : Calls 𝓤 H) (Λ : Loops 𝓤 H) → FmC 𝓤 H (W .laws) C → Triple 𝓤 (C #board·take_report) (Take 𝓤 H A at-mem run)
       → Walks 𝓤 H A updated′.ended stayed (WpFn 𝓤 H C Λ code.function) (updated′.clauses 𝓤 H A at-mem run)
-  updated-walks C Λ fm known = walked 𝓤 H A updated′.ended stayed (updated′.clauses 𝓤 H A at-mem run) (WpFn 𝓤 H C Λ code.function) (λ κs. (LL.vals B.the-type B′.the-laws, (LL.vals R.the-type R′.the-laws, tt))) (λ κs. (LL.tells B.the-type B′.the-laws, (LL.tells R.the-type R′.the-laws, tt)))
+  updated-walks C Λ fm known = walked 𝓤 H A updated′.ended stayed (updated′.clauses 𝓤 H A at-mem run) (WpFn 𝓤 H C Λ code.function) (λ κs. (LL.vals B.the-type B′.the-laws, (LL.vals S.the-type S′.the-laws, tt))) (λ κs. (LL.tells B.the-type B′.the-laws, (LL.tells S.the-type S′.the-laws, tt)))
       (λ κs qs bounds a _ _. via 𝓤 _ (fst∗ 𝓤 _ (emp 𝓤)) (walk 𝓤 H A W at-mem run (a .0) (a .1 .0) C Λ fm known))
 
 updated-meets : {M : Type 1} (𝓤 : URA M) (H : Heap 𝓤) (A : Atoms 𝓤) (W : Given 𝓤 H A) (at-mem : Memory → SProp 𝓤) (run : Routine → Fun 𝓤) (𝓣 : Tables 𝓤 H)
     → Triple 𝓤 (𝓣 .C #board·take_report) (Take 𝓤 H A at-mem run)
     → Meets 𝓤 H A updated′.signature (WpFn 𝓤 H (𝓣 .C) (𝓣 .Λ) code.function) (updated′.spec 𝓤 H A at-mem run)
 updated-meets 𝓤 H A W at-mem run 𝓣 known =
-    walk-meets 𝓤 H A updated′.ended stayed W (goes-none 𝓤 H A W 0 (λ _. B.the-row) yes (λ κs x f. refl), (goes-none 𝓤 H A W 0 (λ _. R.the-row) yes (λ κs x f. refl), tt)) (updated′.clauses 𝓤 H A at-mem run)
+    walk-meets 𝓤 H A updated′.ended stayed W (goes-none 𝓤 H A W 0 (λ _. B.the-row) yes (λ κs x f. refl), (goes-none 𝓤 H A W 0 (λ _. S.the-row) yes (λ κs x f. refl), tt)) (updated′.clauses 𝓤 H A at-mem run)
     (WpFn 𝓤 H (𝓣 .C) (𝓣 .Λ) code.function) (WpFn-mono 𝓤 H (W .laws) 𝓣 code.function) (updated-walks 𝓤 H A W at-mem run (𝓣 .C) (𝓣 .Λ) (fmOf 𝓤 H (W .laws) 𝓣) known)
 
 pub updated-spec : {M : Type 1} → stated.statement M

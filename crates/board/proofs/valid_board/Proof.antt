@@ -4,8 +4,8 @@ use borrow.Author.Needs.{needs}
 use Rattle.board.proofs.valid_board.Statement.{statement}
 use Rattle.board.proofs.valid_board.Tie as tie
 
-valid-list-requires : tie.Need-valid-list-requires
-valid-list-requires c κs = search needs
+valid-opening-requires : tie.Need-valid-opening-requires
+valid-opening-requires c κs = search needs
 
 cast-valid-places : tie.Need-cast-valid-places
 cast-valid-places c = search needs
@@ -23,4 +23,4 @@ returns-2 c = search tests
 
 pub valid-board-spec : {M : Type 1} → statement M
 valid-board-spec =
-    tie.close (tie.spec valid-list-requires cast-valid-places valid-places-requires returns returns-2)
+    tie.close (tie.spec valid-opening-requires cast-valid-places valid-places-requires returns returns-2)

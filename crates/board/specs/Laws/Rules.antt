@@ -1,25 +1,28 @@
--- The rules are kept: opening makes them hold, no report breaks them or alters the aerodrome and the list.
+-- The rules are kept: opening makes them hold, no report breaks them or alters the aerodrome, the list and its owners.
 use Prim.Native.Nat.{ℕ, zero, suc, _<_, _≤_}
 use mathlib.Core.Path.{_≡_, refl, sym, subst, _∙_, ap}
 use mathlib.Core.List.{List, [], _∷_}
 use mathlib.Core.Bool.{cond, Bool, true, false}
 use lib.Dec.{eqb, ltb}
 use lib.ListN.{length, take, getD, set, replicate, length-take, length-set}
+use lib.Seq.{getD-take}
 use borrow.Author.Tests.{eqb-true, eq-eqb, ne-eqb, leb-true, ltb-true, lt-ltb, le-ltb}
 use native.Mathlib.Omega.{arith}
-use Rattle.text.specs.Choice.{_and_}
-use Rattle.text.specs.Laws.Base.{and-1, and-2, and-i}
+use Rattle.text.specs.Choice.{_and_, all}
+use Rattle.text.specs.Laws.Base.{true-false, and-1, and-2, and-i}
 use Rattle.row.specs.declared.Row.{Row}
 use Rattle.runway.specs.Time.{realTime, realDay}
 use Rattle.surface.specs.Third.{isBlankThird}
 use Rattle.row.specs.Row.{validRow, blankRow, isBlankRow, threeThat}
-use Rattle.text.specs.Refusals.{invalidRow, wrongBoard, notOnBoard, notLater}
+use Rattle.text.specs.Refusals.{invalidRow, wrongBoard, notOnBoard, notLater, othersRunway, noDesk}
 use Rattle.row.specs.Laws.Row.{blank-row}
 use Rattle.board.specs.declared.Runway.{Runway}
 use Rattle.board.specs.declared.Board.{Board}
-use Rattle.board.specs.Board.{blankRunway, comesBefore, rises, rising, validList, names, fitsPlace, fitPlaces, validPlaces, runwaysOf, validBoard}
-use Rattle.board.specs.Board.{fresh, answer}
-use Rattle.board.specs.Report.{placeOf, rowAt, isNews, stored, report, reports}
+use Rattle.board.specs.Board.{blankRunway, comesBefore, rises, rising, validList, names, fitsPlace, fitPlaces, validPlaces, runwaysOf}
+use Rattle.board.specs.Board.{isDesk, validOwners, validOpening, validBoard, fresh}
+use Rattle.board.specs.Report.{placeOf, placeFor, rowAt, ownerAt, isNews, refusal, stored, report}
+use Rattle.board.specs.declared.Sent.{Sent}
+use Rattle.board.specs.Runs.{reports}
 
 -- a blank row is blank, and no valid row is
 pub blank-blank : isBlankRow blankRow ≡ true
@@ -151,151 +154,186 @@ place-is d v r (w ∷ ws) (suc i) h l n =
 -- the rules, one by one
 pub record Rules (b : Board) : Type 0 where
   pub list : validList (b .aerodrome) (b .count) (b .runways) ≡ true
+  pub owned : validOwners (b .count) (b .owners) ≡ true
   pub some : 1 ≤ b .count
   pub few : b .count ≤ 8
   pub wide : length (b .runways) ≡ 8
+  pub long : length (b .owners) ≡ 8
   pub rise : rising blankRunway (runwaysOf b) ≡ true
+  pub desks : all isDesk (take (b .count) (b .owners)) ≡ true
   pub high : length (b .rows) ≡ 8
   pub fit : fitPlaces (runwaysOf b) (b .rows) ≡ true
 
 pub rules : (b : Board) → validBoard b ≡ true → Rules b
-unfolding validBoard validList validPlaces
+unfolding validBoard validOpening validList validOwners validPlaces
 rules b v =
-    let h = and-1 _ _ v in
+    let h = and-1 _ _ (and-1 _ _ v) in
     let h₁ = and-2 _ _ h in
     let h₂ = and-2 _ _ h₁ in
     let h₃ = and-2 _ _ h₂ in
+    let o = and-2 _ _ (and-1 _ _ v) in
     let k = and-2 _ _ v in
     record {
       list = h;
+      owned = o;
       some = leb-true 1 (b .count) (and-1 _ _ h₁);
       few = leb-true (b .count) 8 (and-1 _ _ h₂);
       wide = eqb-true (length (b .runways)) 8 (and-1 _ _ h₃);
+      long = eqb-true (length (b .owners)) 8 (and-1 _ _ o);
       rise = and-1 _ _ (and-2 _ _ h₃);
+      desks = and-1 _ _ (and-2 _ _ o);
       high = eqb-true (length (b .rows)) 8 (and-1 _ _ k);
       fit = and-2 _ _ k;
     }
 
-pub board-few : (b : Board) → validBoard b ≡ true → b .count ≤ 8
-board-few b v = rules b v .few
-
 pub used : (b : Board) → Rules b → length (runwaysOf b) ≡ b .count
 used b k = let f = k .few in let w = k .wide in rw length-take (omega arith)
 
+-- the places in use are owned by desks
+all-in : {A : Type 0} (p : A → Bool) (z : A) (l : List A) (i : ℕ) → all p l ≡ true → i < length l → p (getD l i z) ≡ true
+all-in p z [] i h f = absurd (omega arith)
+all-in p z (a ∷ l) zero h f = and-1 _ _ h
+all-in p z (a ∷ l) (suc i) h f = all-in p z l i (and-2 _ _ h) (omega arith)
+
+pub owner-desk : (b : Board) → Rules b → (i : ℕ) → i < b .count → isDesk (ownerAt b i) ≡ true
+owner-desk b k i l =
+    let f = k .few in
+    let g = k .long in
+    subst (λ o. isDesk o ≡ true) (getD-take (b .count) (b .owners) i 0 l)
+    (all-in isDesk 0 (take (b .count) (b .owners)) i (k .desks) (rw length-take (omega arith)))
+
 -- opening: the rules hold of what it takes
-pub fresh-valid : (a : List ℕ) (n : ℕ) (ws : List Runway) → validList a n ws ≡ true → validBoard (fresh a n ws) ≡ true
+pub fresh-valid : (a : List ℕ) (n : ℕ) (ws : List Runway) (os : List ℕ) → validOpening a n ws os ≡ true → validBoard (fresh a n ws os) ≡ true
 unfolding validBoard validPlaces
-fresh-valid a n ws h = and-i h (and-i refl (fit-zeros (take n ws) 8))
+fresh-valid a n ws os h = and-i h (and-i refl (fit-zeros (take n ws) 8))
 
--- a board that breaks its rules is refused
-pub report-17 : (b : Board) (r : Row) → validBoard b ≡ false → report b r ≡ answer wrongBoard b
-unfolding report
-report-17 b r h = rw h
+-- each answer to a report, in the order of the tests
+module _ (b : Board) (d : ℕ) (r : Row) where
+  pub refused-17 : validBoard b ≡ false → refusal b d r ≡ wrongBoard
+  unfolding refusal
+  refused-17 h = rw h
 
--- the other answers, for a board that keeps its rules; i is the place of the row's runway
-module _ (b : Board) (r : Row) (v : validBoard b ≡ true) where
-  pub report-19 : validRow r ≡ false → report b r ≡ answer invalidRow b
-  unfolding report
-  report-19 g = rw (v, g)
+  module _ (v : validBoard b ≡ true) where
+    pub refused-23 : isDesk d ≡ false → refusal b d r ≡ noDesk
+    unfolding refusal
+    refused-23 h = rw (v, h)
 
-  module _ (g : validRow r ≡ true) (i : ℕ) (e : i ≡ placeOf r (runwaysOf b)) where
-    pub report-18 : b .count ≤ i → report b r ≡ answer notOnBoard b
-    unfolding report
-    report-18 h = rw (v, g, ← e, le-ltb i (b .count) h)
+    module _ (k : isDesk d ≡ true) where
+      pub refused-19 : validRow r ≡ false → refusal b d r ≡ invalidRow
+      unfolding refusal
+      refused-19 h = rw (v, k, h)
 
-    module _ (d : Row) (h : i < b .count) where
-      there : (t : Bool) → isNews r (getD (b .rows) i d) ≡ t → isNews r (rowAt b i) ≡ t
-      there t n =
-          let k = rules b v in
-          let f = k .few in
-          let w = k .high in
-          ap (isNews r) (getD-any blankRow d (b .rows) i (omega arith)) ∙ n
+      module _ (g : validRow r ≡ true) where
+        pub refused-18 : b .count ≤ placeFor b r → refusal b d r ≡ notOnBoard
+        unfolding refusal
+        refused-18 h = rw (v, k, g, le-ltb (placeFor b r) (b .count) h)
 
-      pub report-20 : isNews r (getD (b .rows) i d) ≡ false → report b r ≡ answer notLater b
-      unfolding report
-      report-20 n = rw (v, g, ← e, lt-ltb i (b .count) h, there false n)
+        module _ (h : placeFor b r < b .count) where
+          pub refused-22 : eqb d (ownerAt b (placeFor b r)) ≡ false → refusal b d r ≡ othersRunway
+          unfolding refusal
+          refused-22 o = rw (v, k, g, lt-ltb (placeFor b r) (b .count) h, o)
 
-      pub report-0 : isNews r (getD (b .rows) i d) ≡ true → report b r ≡ answer 0 (stored b i r)
-      unfolding report
-      report-0 n = rw (v, g, ← e, lt-ltb i (b .count) h, there true n)
+          module _ (o : eqb d (ownerAt b (placeFor b r)) ≡ true) where
+            pub refused-20 : isNews r (rowAt b (placeFor b r)) ≡ false → refusal b d r ≡ notLater
+            unfolding refusal
+            refused-20 n = rw (v, k, g, lt-ltb (placeFor b r) (b .count) h, o, n)
 
--- the board after a report: one place stored, or as before
-abbrev pub takes : Board → Row → Bool
-takes b r = validBoard b and validRow r and ltb (placeOf r (runwaysOf b)) (b .count) and isNews r (rowAt b (placeOf r (runwaysOf b)))
+            pub refused-0 : isNews r (rowAt b (placeFor b r)) ≡ true → refusal b d r ≡ 0
+            unfolding refusal
+            refused-0 n = rw (v, k, g, lt-ltb (placeFor b r) (b .count) h, o, n)
 
-pub report-board : (b : Board) (r : Row) → report b r .board ≡ cond (takes b r) (stored b (placeOf r (runwaysOf b)) r) b
-unfolding report _and_
-report-board b r = go (validBoard b) (validRow r) (ltb (placeOf r (runwaysOf b)) (b .count)) (isNews r (rowAt b (placeOf r (runwaysOf b))))
-    (stored b (placeOf r (runwaysOf b)) r)
-  where
-    go : (x y z t : Bool) (c : Board) → cond x (cond y (cond z (cond t (answer 0 c) (answer notLater b)) (answer notOnBoard b)) (answer invalidRow b))
-        (answer wrongBoard b) .board ≡ cond (x and y and z and t) c b
-    go false y z t c = refl
-    go true false z t c = refl
-    go true true false t c = refl
-    go true true true false c = refl
-    go true true true true c = refl
-
-pub taken-0 : (b : Board) (r : Row) → takes b r ≡ true → report b r .refusal ≡ 0
-unfolding report
-taken-0 b r h =
-    let h₁ = and-2 _ _ h in
-    let h₂ = and-2 _ _ h₁ in
-    rw (and-1 _ _ h, and-1 _ _ h₁, and-1 _ _ h₂, and-2 _ _ h₂)
+-- a report is taken exactly if no test fails
+abbrev pub takes : Board → ℕ → Row → Bool
+takes b d r = eqb (refusal b d r) 0
 
 -- what a taken report shows
-pub record Took (b : Board) (r : Row) : Type 0 where
+pub record Took (b : Board) (d : ℕ) (r : Row) : Type 0 where
+  pub good : validBoard b ≡ true
   pub valid : validRow r ≡ true
-  pub place : placeOf r (runwaysOf b) < b .count
-  pub named : names r (getD (runwaysOf b) (placeOf r (runwaysOf b)) blankRunway) ≡ true
+  pub place : placeFor b r < b .count
+  pub owner : d ≡ ownerAt b (placeFor b r)
+  pub news : isNews r (rowAt b (placeFor b r)) ≡ true
 
-pub took : (b : Board) (r : Row) → Rules b → takes b r ≡ true → Took b r
-took b r k h =
-    let h₁ = and-2 _ _ h in
-    let p = ltb-true (placeOf r (runwaysOf b)) (b .count) (and-1 _ _ (and-2 _ _ h₁)) in
-    let u = used b k in
-    record { valid = and-1 _ _ h₁; place = p; named = place-names blankRunway r (runwaysOf b) (omega arith) }
+pub took : (b : Board) (d : ℕ) (r : Row) → takes b d r ≡ true → Took b d r
+unfolding refusal
+took b d r = go (validBoard b) refl (isDesk d) (validRow r) refl (ltb (placeFor b r) (b .count)) refl (eqb d (ownerAt b (placeFor b r))) refl
+    (isNews r (rowAt b (placeFor b r))) refl
+  where
+    go : (x : Bool) → validBoard b ≡ x → (y z : Bool) → validRow r ≡ z → (p : Bool) → ltb (placeFor b r) (b .count) ≡ p → (o : Bool)
+        → eqb d (ownerAt b (placeFor b r)) ≡ o → (n : Bool) → isNews r (rowAt b (placeFor b r)) ≡ n
+        → eqb (cond x (cond y (cond z (cond p (cond o (cond n 0 notLater) othersRunway) notOnBoard) invalidRow) noDesk) wrongBoard) 0 ≡ true → Took b d r
+    go false e₁ y z e₂ p e₃ o e₄ n e₅ h = true-false (sym h)
+    go true e₁ false z e₂ p e₃ o e₄ n e₅ h = true-false (sym h)
+    go true e₁ true false e₂ p e₃ o e₄ n e₅ h = true-false (sym h)
+    go true e₁ true true e₂ false e₃ o e₄ n e₅ h = true-false (sym h)
+    go true e₁ true true e₂ true e₃ false e₄ n e₅ h = true-false (sym h)
+    go true e₁ true true e₂ true e₃ true e₄ false e₅ h = true-false (sym h)
+    go true e₁ true true e₂ true e₃ true e₄ true e₅ h =
+        record { good = e₁; valid = e₂; place = ltb-true (placeFor b r) (b .count) e₃; owner = eqb-true d (ownerAt b (placeFor b r)) e₄; news = e₅ }
 
-pub stored-valid : (b : Board) (r : Row) → validBoard b ≡ true → takes b r ≡ true → validBoard (stored b (placeOf r (runwaysOf b)) r) ≡ true
-unfolding validBoard validPlaces
-stored-valid b r v h =
-    let k = rules b v in
-    let t = took b r k h in
+-- it names the runway of its place
+pub took-names : (b : Board) (d : ℕ) (r : Row) → Took b d r → names r (getD (runwaysOf b) (placeFor b r) blankRunway) ≡ true
+took-names b d r t =
+    let u = used b (rules b (t .good)) in
+    let p = t .place in
+    place-names blankRunway r (runwaysOf b) (omega arith)
+
+-- the board after a report: one place stored, or as before
+pub report-board : (b : Board) (d : ℕ) (r : Row) → report b d r .board ≡ cond (takes b d r) (stored b (placeFor b r) r) b
+unfolding report
+report-board b d r = refl
+
+pub stored-valid : (b : Board) (d : ℕ) (r : Row) → Took b d r → validBoard (stored b (placeFor b r) r) ≡ true
+unfolding validBoard validOpening validPlaces
+stored-valid b d r t =
+    let k = rules b (t .good) in
     let u = used b k in
     let p = t .place in
-    let f = fits-valid (getD (runwaysOf b) (placeOf r (runwaysOf b)) blankRunway) r (t .valid) (t .named) in
-    and-i (k .list) (and-i (eq-eqb (length (set (b .rows) (placeOf r (runwaysOf b)) r)) 8 (length-set (b .rows) (placeOf r (runwaysOf b)) r ∙ k .high))
-    (fit-set blankRunway (runwaysOf b) (b .rows) (placeOf r (runwaysOf b)) r (k .fit) (omega arith) f))
+    let f = fits-valid (getD (runwaysOf b) (placeFor b r) blankRunway) r (t .valid) (took-names b d r t) in
+    and-i (and-i (k .list) (k .owned)) (and-i (eq-eqb (length (set (b .rows) (placeFor b r) r)) 8 (length-set (b .rows) (placeFor b r) r ∙ k .high))
+    (fit-set blankRunway (runwaysOf b) (b .rows) (placeFor b r) r (k .fit) (omega arith) f))
 
-pub report-valid : (b : Board) (r : Row) → validBoard b ≡ true → validBoard (report b r .board) ≡ true
-report-valid b r v = subst (λ c. validBoard c ≡ true) (sym (report-board b r)) (go (takes b r) refl)
+pub report-valid : (b : Board) (d : ℕ) (r : Row) → validBoard b ≡ true → validBoard (report b d r .board) ≡ true
+report-valid b d r v = subst (λ c. validBoard c ≡ true) (sym (report-board b d r)) (go (takes b d r) refl)
   where
-    go : (t : Bool) → takes b r ≡ t → validBoard (cond t (stored b (placeOf r (runwaysOf b)) r) b) ≡ true
-    go true e = stored-valid b r v e
+    go : (t : Bool) → takes b d r ≡ t → validBoard (cond t (stored b (placeFor b r) r) b) ≡ true
+    go true e = stored-valid b d r (took b d r e)
     go false e = v
 
--- the aerodrome and the list stay
+-- the aerodrome, the list and the owners stay
 pub record SameList (b c : Board) : Type 0 where
   pub aerodrome : c .aerodrome ≡ b .aerodrome
   pub count : c .count ≡ b .count
   pub runways : c .runways ≡ b .runways
+  pub owners : c .owners ≡ b .owners
 
-pub report-list : (b : Board) (r : Row) → SameList b (report b r .board)
-report-list b r = subst (SameList b) (sym (report-board b r)) (go (takes b r))
+same-self : (b : Board) → SameList b b
+same-self b = record { aerodrome = refl; count = refl; runways = refl; owners = refl }
+
+pub same-trans : {b c e : Board} → SameList b c → SameList c e → SameList b e
+same-trans x y = record {
+  aerodrome = y .aerodrome ∙ x .aerodrome;
+  count = y .count ∙ x .count;
+  runways = y .runways ∙ x .runways;
+  owners = y .owners ∙ x .owners;
+}
+
+pub same-sym : {b c : Board} → SameList b c → SameList c b
+same-sym x = record { aerodrome = sym (x .aerodrome); count = sym (x .count); runways = sym (x .runways); owners = sym (x .owners) }
+
+pub report-list : (b : Board) (d : ℕ) (r : Row) → SameList b (report b d r .board)
+report-list b d r = subst (SameList b) (sym (report-board b d r)) (go (takes b d r))
   where
-    go : (t : Bool) → SameList b (cond t (stored b (placeOf r (runwaysOf b)) r) b)
-    go true = record { aerodrome = refl; count = refl; runways = refl }
-    go false = record { aerodrome = refl; count = refl; runways = refl }
+    go : (t : Bool) → SameList b (cond t (stored b (placeFor b r) r) b)
+    go true = record { aerodrome = refl; count = refl; runways = refl; owners = refl }
+    go false = same-self b
 
-pub reports-valid : (b : Board) (rs : List Row) → validBoard b ≡ true → validBoard (reports b rs) ≡ true
+pub reports-valid : (b : Board) (xs : List Sent) → validBoard b ≡ true → validBoard (reports b xs) ≡ true
 unfolding reports
 reports-valid b [] v = v
-reports-valid b (r ∷ rs) v = reports-valid (report b r .board) rs (report-valid b r v)
+reports-valid b (x ∷ xs) v = reports-valid (report b (x .desk) (x .row) .board) xs (report-valid b (x .desk) (x .row) v)
 
-pub reports-list : (b : Board) (rs : List Row) → SameList b (reports b rs)
+pub reports-list : (b : Board) (xs : List Sent) → SameList b (reports b xs)
 unfolding reports
-reports-list b [] = record { aerodrome = refl; count = refl; runways = refl }
-reports-list b (r ∷ rs) =
-    let x = report-list b r in
-    let y = reports-list (report b r .board) rs in
-    record { aerodrome = y .aerodrome ∙ x .aerodrome; count = y .count ∙ x .count; runways = y .runways ∙ x .runways }
+reports-list b [] = same-self b
+reports-list b (x ∷ xs) = same-trans (report-list b (x .desk) (x .row)) (reports-list (report b (x .desk) (x .row) .board) xs)

@@ -2,24 +2,26 @@
 use Prim.Native.Nat.{ℕ, _<_}
 use mathlib.Core.Path.{_≡_, refl, sym, subst, _∙_, ap}
 use mathlib.Core.Bool.{cond, Bool, true, false}
-use lib.Dec.{ltb}
+use lib.Dec.{eqb}
 use lib.ListN.{getD}
 use lib.Seq.{getD-take, getD-set-same, getD-set-other}
-use borrow.Author.Tests.{lt-ltb}
+use borrow.Author.Tests.{eqb-true, eq-eqb}
 use native.Mathlib.Omega.{arith}
 use Rattle.text.specs.Choice.{_and_}
-use Rattle.text.specs.Laws.Base.{true-false, and-1}
+use Rattle.text.specs.Laws.Base.{true-false, and-1, and-2, and-i}
 use Rattle.row.specs.declared.Row.{Row}
 use Rattle.runway.specs.Time.{later}
 use Rattle.row.specs.Row.{validRow, blankRow, isBlankRow}
-use Rattle.text.specs.Refusals.{invalidRow, wrongBoard, notOnBoard, notLater}
+use Rattle.text.specs.Refusals.{notLater, othersRunway}
 use Rattle.runway.specs.Laws.Time.{later-self}
 use Rattle.board.specs.declared.Board.{Board}
-use Rattle.board.specs.Board.{blankRunway, names, runwaysOf, validBoard, answer}
-use Rattle.board.specs.Report.{placeOf, rowAt, isNews, stored, report}
+use Rattle.board.specs.Board.{blankRunway, names, runwaysOf, isDesk, validBoard, answer}
+use Rattle.board.specs.Report.{placeFor, rowAt, ownerAt, isNews, refusal, stored, report}
+use Rattle.board.specs.Runs.{_sends_}
 use Rattle.board.specs.Shows.{nothing, row, shown, runwayAt, shownAt}
 use Rattle.board.specs.Laws.Shows.{newer, next, row-real}
-use Rattle.board.specs.Laws.Rules.{valid-not-blank, place-is, rules, used, takes, report-board, took, stored-valid, report-20}
+use Rattle.board.specs.Laws.Rules.{valid-not-blank, place-is, rules, used, owner-desk, takes, report-board, Took, took, took-names, stored-valid}
+use Rattle.board.specs.Laws.Rules.{refused-0, refused-20, refused-22}
 
 pub shown-valid : (r : Row) → validRow r ≡ true → shown r ≡ row r
 shown-valid r v = rw (valid-not-blank r v)
@@ -36,12 +38,22 @@ old : (r : Row) → validRow r ≡ true → isNews r r ≡ false
 unfolding isNews
 old r v = rw (valid-not-blank r v) (later-self (r .time) (row-real r v))
 
-module _ (b : Board) (v : validBoard b ≡ true) (r : Row) (i : ℕ) (l : i < b .count) where
+-- two tests that hold together
+both : (x y : Bool) → (x ≡ true → y ≡ true) → (y ≡ true → x ≡ true) → x ≡ y
+both true y to from = sym (to refl)
+both false false to from = refl
+both false true to from = from refl
+
+module _ (b : Board) (v : validBoard b ≡ true) (d : ℕ) (r : Row) (i : ℕ) (l : i < b .count) where
   abbrev k : ℕ
-  k = placeOf r (runwaysOf b)
+  k = placeFor b r
 
   in-use : getD (runwaysOf b) i blankRunway ≡ runwayAt b i
   in-use = getD-take (b .count) (b .runways) i blankRunway l
+
+  -- the report is the owner's, valid, for the runway and newer
+  abbrev counts : Bool
+  counts = eqb d (ownerAt b i) and validRow r and names r (runwayAt b i) and newer r (shownAt b i)
 
   -- the report names the place
   here : names r (runwayAt b i) ≡ true → k ≡ i
@@ -50,9 +62,21 @@ module _ (b : Board) (v : validBoard b ≡ true) (r : Row) (i : ℕ) (l : i < b 
       let u = used b q in
       place-is blankRunway blankRunway r (runwaysOf b) i (q .rise) (omega arith) (rw in-use n)
 
-  test : names r (runwayAt b i) ≡ true → takes b r ≡ (validRow r and names r (runwayAt b i) and newer r (shownAt b i))
-  unfolding _and_
-  test n = rw (v, here n, lt-ltb i (b .count) l, n) (ap (λ x. validRow r and x) (news-newer r (rowAt b i)))
+  taken-counts : names r (runwayAt b i) ≡ true → takes b d r ≡ true → counts ≡ true
+  taken-counts n h =
+      let t = took b d r h in
+      and-i (eq-eqb d (ownerAt b i) (t .owner ∙ ap (ownerAt b) (here n)))
+      (and-i (t .valid) (and-i n (sym (news-newer r (rowAt b i)) ∙ (ap (λ j. isNews r (rowAt b j)) (sym (here n)) ∙ t .news))))
+
+  counts-taken : names r (runwayAt b i) ≡ true → counts ≡ true → takes b d r ≡ true
+  counts-taken n h =
+      let o = and-1 _ _ h in
+      let h₁ = and-2 _ _ h in
+      let e = sym (here n) in
+      eq-eqb (refusal b d r) 0
+      (refused-0 b d r v (subst (λ x. isDesk x ≡ true) (sym (eqb-true d (ownerAt b i) o)) (owner-desk b (rules b v) i l)) (and-1 _ _ h₁)
+      (subst (λ j. j < b .count) e l) (subst (λ j. eqb d (ownerAt b j) ≡ true) e o)
+      (subst (λ j. isNews r (rowAt b j) ≡ true) e (news-newer r (rowAt b i) ∙ and-2 _ _ (and-2 _ _ h₁))))
 
   store : (t : Bool) → (t ≡ true → validRow r ≡ true) → shownAt (cond t (stored b i r) b) i ≡ cond t (row r) (shownAt b i)
   store true h =
@@ -63,62 +87,67 @@ module _ (b : Board) (v : validBoard b ≡ true) (r : Row) (i : ℕ) (l : i < b 
   store false h = refl
 
   -- it names another
-  none : names r (runwayAt b i) ≡ false → next (runwayAt b i) r (shownAt b i) ≡ shownAt b i
+  none : names r (runwayAt b i) ≡ false → next (runwayAt b i) (ownerAt b i) (d sends r) (shownAt b i) ≡ shownAt b i
   unfolding _and_
-  none n = rw n (go (validRow r))
+  none n = rw n (go (eqb d (ownerAt b i)) (validRow r))
     where
-      go : (t : Bool) → cond (t and false) (row r) (shownAt b i) ≡ shownAt b i
-      go true = refl
-      go false = refl
+      go : (s t : Bool) → cond (s and t and false) (row r) (shownAt b i) ≡ shownAt b i
+      go true true = refl
+      go true false = refl
+      go false t = refl
 
-  other : names r (runwayAt b i) ≡ false → (t : Bool) → takes b r ≡ t → shownAt (cond t (stored b k r) b) i ≡ shownAt b i
+  other : names r (runwayAt b i) ≡ false → (t : Bool) → takes b d r ≡ t → shownAt (cond t (stored b k r) b) i ≡ shownAt b i
   other n false e = refl
   other n true e =
-      let t = took b r (rules b v) e in
+      let m = took-names b d r (took b d r e) in
       ap shown (getD-set-other (b .rows) k i r blankRow
-      (λ z. true-false (sym (subst (λ j. names r (getD (runwaysOf b) j blankRunway) ≡ true) (sym z) (t .named)) ∙ (ap (names r) in-use ∙ n))))
+      (λ z. true-false (sym (subst (λ j. names r (getD (runwaysOf b) j blankRunway) ≡ true) (sym z) m) ∙ (ap (names r) in-use ∙ n))))
 
-  pub report-shown : shownAt (report b r .board) i ≡ next (runwayAt b i) r (shownAt b i)
-  report-shown = ap (λ c. shownAt c i) (report-board b r) ∙ go (names r (runwayAt b i)) refl
+  pub report-shown : shownAt (report b d r .board) i ≡ next (runwayAt b i) (ownerAt b i) (d sends r) (shownAt b i)
+  report-shown = ap (λ c. shownAt c i) (report-board b d r) ∙ go (names r (runwayAt b i)) refl
     where
-      go : (t : Bool) → names r (runwayAt b i) ≡ t → shownAt (cond (takes b r) (stored b k r) b) i ≡ next (runwayAt b i) r (shownAt b i)
+      go : (t : Bool) → names r (runwayAt b i) ≡ t
+          → shownAt (cond (takes b d r) (stored b k r) b) i ≡ next (runwayAt b i) (ownerAt b i) (d sends r) (shownAt b i)
       go true n =
-          ap (λ j. shownAt (cond (takes b r) (stored b j r) b) i) (here n)
-          ∙ (ap (λ t. shownAt (cond t (stored b i r) b) i) (test n)
-          ∙ store (validRow r and names r (runwayAt b i) and newer r (shownAt b i)) (λ h. and-1 _ _ h))
-      go false n = other n (takes b r) refl ∙ sym (none n)
+          ap (λ j. shownAt (cond (takes b d r) (stored b j r) b) i) (here n)
+          ∙ (ap (λ t. shownAt (cond t (stored b i r) b) i) (both (takes b d r) counts (taken-counts n) (counts-taken n))
+          ∙ store counts (λ h. and-1 _ _ (and-2 _ _ h)))
+      go false n = other n (takes b d r) refl ∙ sym (none n)
 
--- a report that was taken is refused by 20 when it comes again
-record Accepted (b : Board) (r : Row) (c : Board) : Type 0 where
-  valid : validBoard b ≡ true
-  row : validRow r ≡ true
-  place : ltb (placeOf r (runwaysOf b)) (b .count) ≡ true
-  all : takes b r ≡ true
-  is : stored b (placeOf r (runwaysOf b)) r ≡ c
+-- a report that was taken is refused when it comes again: by 20 from its desk, by 22 from the other
+module _ (b c : Board) (d : ℕ) (r : Row) (e : report b d r ≡ answer 0 c) where
+  went : Took b d r
+  unfolding report
+  went = took b d r (eq-eqb (refusal b d r) 0 (ap (λ a. a .refusal) e))
 
-accepted : (b c : Board) (r : Row) → report b r ≡ answer 0 c → Accepted b r c
-unfolding report _and_
-accepted b c r = go (validBoard b) refl (validRow r) refl (ltb (placeOf r (runwaysOf b)) (b .count)) refl (isNews r (rowAt b (placeOf r (runwaysOf b)))) refl
-  where
-    go : (x : Bool) → validBoard b ≡ x → (y : Bool) → validRow r ≡ y → (z : Bool) → ltb (placeOf r (runwaysOf b)) (b .count) ≡ z → (t : Bool)
-        → isNews r (rowAt b (placeOf r (runwaysOf b))) ≡ t
-        → cond x (cond y (cond z (cond t (answer 0 (stored b (placeOf r (runwaysOf b)) r)) (answer notLater b)) (answer notOnBoard b))
-        (answer invalidRow b)) (answer wrongBoard b) ≡ answer 0 c → Accepted b r c
-    go false p y q z k t m e = let o = ap (λ a. a .refusal) e in absurd (omega arith)
-    go true p false q z k t m e = let o = ap (λ a. a .refusal) e in absurd (omega arith)
-    go true p true q false k t m e = let o = ap (λ a. a .refusal) e in absurd (omega arith)
-    go true p true q true k false m e = let o = ap (λ a. a .refusal) e in absurd (omega arith)
-    go true p true q true k true m e = record { valid = p; row = q; place = k; all = rw (p, q, k, m); is = ap (λ a. a .board) e }
+  abbrev after : Board
+  after = stored b (placeFor b r) r
 
-pub again-20 : (b c : Board) (r : Row) → report b r ≡ answer 0 c → report c r ≡ answer notLater c
-again-20 b c r e =
-    let a = accepted b c r e in
-    let q = rules b (a .valid) in
-    let t = took b r q (a .all) in
-    let p = t .place in
-    let f = q .few in
-    let g = q .high in
-    let s = stored b (placeOf r (runwaysOf b)) r in
-    subst (λ x. report x r ≡ answer notLater x) (a .is)
-    (report-20 s r (stored-valid b r (a .valid) (a .all)) (a .row) (placeOf r (runwaysOf b)) refl blankRow (t .place)
-    (ap (isNews r) (getD-set-same (b .rows) (placeOf r (runwaysOf b)) r blankRow (omega arith)) ∙ old r (a .row)))
+  is : after ≡ c
+  unfolding report
+  is = sym (ap (λ n. cond (eqb n 0) after b) (ap (λ a. a .refusal) e)) ∙ ap (λ a. a .board) e
+
+  holds-row : rowAt after (placeFor b r) ≡ r
+  holds-row =
+      let q = rules b (went .good) in
+      let f = q .few in
+      let g = q .high in
+      let p = went .place in
+      getD-set-same (b .rows) (placeFor b r) r blankRow (omega arith)
+
+  answered : (f n : ℕ) → eqb n 0 ≡ false → refusal after f r ≡ n → report c f r ≡ answer n c
+  unfolding report
+  answered f n z q = subst (λ x. report x f r ≡ answer n x) is (rw (q, z) refl)
+
+  pub again-20 : report c d r ≡ answer notLater c
+  again-20 =
+      let t = went in
+      answered d notLater refl
+      (refused-20 after d r (stored-valid b d r t)
+      (subst (λ x. isDesk x ≡ true) (sym (t .owner)) (owner-desk b (rules b (t .good)) (placeFor b r) (t .place))) (t .valid) (t .place)
+      (eq-eqb d (ownerAt b (placeFor b r)) (t .owner)) (ap (isNews r) holds-row ∙ old r (t .valid)))
+
+  pub again-22 : (f : ℕ) → isDesk f ≡ true → eqb f d ≡ false → report c f r ≡ answer othersRunway c
+  again-22 f k n =
+      let t = went in
+      answered f othersRunway refl (refused-22 after f r (stored-valid b d r t) k (t .valid) (t .place) (ap (eqb f) (sym (t .owner)) ∙ n))

@@ -21,13 +21,16 @@ use Rattle.board.specs.declared.Runway.{Runway}
 use Rattle.board.specs.declared.Board.{Board}
 use Rattle.boardnotice.specs.declared.Details.{Details}
 use Rattle.board.specs.Board.{blankRunway, comesBefore, rises, rising, isAerodrome, validList, names, fitsPlace, fitPlaces, runwaysOf, validBoard}
-use Rattle.board.specs.Shows.{ReportFor}
 use Rattle.boardnotice.specs.Writing.{reported, boardRecord, writingBoard}
 use Rattle.boardnotice.specs.DeskNotice.{detailsOf}
 use Rattle.board.specs.Laws.Rules.{before-trans, before-apart, rules}
 
 -- a place holds zeros, or a valid row of its runway
-held : (w : Runway) (r : Row) → isBlankRow r ≡ false → fitsPlace w r ≡ true → ReportFor w r
+record RowOf (w : Runway) (r : Row) : Type 0 where
+  valid : validRow r ≡ true
+  named : names r w ≡ true
+
+held : (w : Runway) (r : Row) → isBlankRow r ≡ false → fitsPlace w r ≡ true → RowOf w r
 unfolding fitsPlace
 held w r e h = let k = rw e at h in record { valid = and-1 _ _ k; named = and-2 _ _ k }
 

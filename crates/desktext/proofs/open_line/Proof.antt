@@ -47,10 +47,10 @@ open-requires c κs = search needs
 
 returns-3 : tie.Need-returns-3
 returns-3 c =
-    let line = c .before .before .before .before .before .before .before .before .before .before .before .args .line .now in
-    let read = c .before .before .before .before .before .before .before .read-aerodrome in
-    let list = c .before .before .before .runway-list in
-    c .«open» .ensures ∙ with-aerodrome line (read .result) (read .ensures) (not-false _ (c .before .before .before .before .before .if2 .left))
+    let line = c .before .before .before .before .before .before .before .before .before .before .before .before .args .line .now in
+    let read = c .before .before .before .before .before .before .before .before .read-aerodrome in
+    let list = c .before .before .before .before .runway-list in
+    c .«open» .ensures ∙ with-aerodrome line (read .result) (read .ensures) (not-false _ (c .before .before .before .before .before .before .if2 .left))
     (list .result) (list .ensures ∙ ap (λ k. listAnswer (whole (readRunways k))) (part-all 4 line))
 
 pub open-line-spec : {M : Type 1} → statement M

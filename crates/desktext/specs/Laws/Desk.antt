@@ -1,6 +1,6 @@
 -- What the desk's lines mean: the line that opens a board, those of its reports, and those of the rows shown.
 use Prim.Native.Nat.{ℕ, _<_, _≤_}
-use mathlib.Core.Path.{_≡_, refl, sym, _∙_}
+use mathlib.Core.Path.{_≡_, refl, sym, _∙_, ap}
 use mathlib.Core.List.{List, [], _∷_}
 use mathlib.Core.Bool.{cond, Bool, true, false}
 use mathlib.Core.Logic.{_↔_}
@@ -8,7 +8,7 @@ use lib.Dec.{leb}
 use lib.ListN.{length}
 use borrow.Author.Tests.{le-leb, leb-true, leb-false}
 use native.Mathlib.Omega.{arith}
-use Rattle.text.specs.Piece.{canonical, end, _then_}
+use Rattle.text.specs.Piece.{Typed, canonical, end, _then_}
 use Rattle.text.specs.Read.{Got, misfit, got}
 use Rattle.text.specs.Laws.Base.{no-misfit}
 use Rattle.row.specs.declared.Row.{Row}
@@ -18,11 +18,13 @@ use Rattle.rowtext.specs.Reading.{wholeRow}
 use Rattle.rowtext.specs.Theorems.{Tells, row-sound, row-complete}
 use Rattle.board.specs.declared.Board.{Board}
 use Rattle.board.specs.Board.{validBoard, blankBoard, answer}
-use Rattle.board.specs.Report.{rowAt, report, reports}
-use Rattle.desktext.specs.Line.{openingLine, reportRead, reportLine, shownText}
+use Rattle.board.specs.declared.Sent.{Sent}
+use Rattle.board.specs.Report.{rowAt, report}
+use Rattle.board.specs.Runs.{_sends_, reports}
+use Rattle.desktext.specs.Line.{openingLine, senderPieces, readSender, reportRead, reportStarted, reportLine, shownText}
 use Rattle.desktext.specs.Desk.{reportLines}
 use Rattle.board.specs.Shows.{nothing, row, shownAt}
-use Rattle.desktext.specs.Laws.Line.{Opens, line-sound, line-complete, line-refused, shown-row, shown-nothing, line-size}
+use Rattle.desktext.specs.Laws.Line.{Opens, line-sound, line-complete, line-refused, sender-laws, shown-row, shown-nothing, line-size}
 
 -- a line opens a board exactly if it is the text of an aerodrome and runways that opening takes with that board
 pub line-opens : (line : List ℕ) (b : Board) → (openingLine line ≡ answer 0 b) ↔ Opens line b
@@ -32,42 +34,80 @@ line-opens line b = (line-sound line b, line-complete line b)
 pub no-opening : (line : List ℕ) → ((b : Board) → Opens line b → ⊥) → openingLine line ≡ answer 17 blankBoard
 no-opening = line-refused
 
--- a line of at most 4,096 bytes that tells a row is the report of that row
-pub line-reports : (b : Board) (line : List ℕ) (r : Row) → length line ≤ 4096 → Tells line r → reportLine b line ≡ report b r
+-- the line tells the report x: a digit, the desk, and one space, and behind them a line that tells the row
+pub record TellsReport (line : List ℕ) (x : Sent) : Type 0 where
+  pub short : length line ≤ 4096
+  pub digit : x .desk < 10
+  pub rest : List ℕ
+  pub start : Typed (senderPieces (x .desk)) line rest
+  pub told : Tells rest (x .row)
+
+-- the line starts as the report says
+started : (line : List ℕ) (x : Sent) (t : TellsReport line x) → readSender line ≡ got (x .desk) (t .rest)
+started line x t = sender-laws .complete (x .desk) {m = line} {r = t .rest} (t .digit) (t .start) tt
+
+-- such a line is that report
+pub line-reports : (b : Board) (line : List ℕ) (x : Sent) → TellsReport line x → reportLine b line ≡ report b (x .desk) (x .row)
 unfolding reportLine
-line-reports b line r h t = rw (le-leb (length line) 4096 h, row-complete line r t)
+line-reports b line x t =
+    rw (le-leb (length line) 4096 (t .short), started line x t, row-complete (t .rest) (x .row) (t .told))
+
+got-rest : {d e : ℕ} {r s : List ℕ} → got d r ≡ got e s → r ≡ s
+got-rest q = cc
+
+-- what a line tells
+told-by : (line : List ℕ) → leb (length line) 4096 ≡ true → (d : ℕ) (rest : List ℕ) → readSender line ≡ got d rest → (r : Row) (k : List ℕ)
+    → wholeRow rest ≡ got r k → TellsReport line (d sends r)
+told-by line e d rest q r k w =
+    let s = sender-laws .sound {m = line} q in
+    record { short = leb-true (length line) 4096 e; digit = s .0; rest = rest; start = s .1; told = row-sound rest w }
 
 -- any other line is refused by 5 and leaves the board as it was
-pub no-report : (b : Board) (line : List ℕ) → ((r : Row) → length line ≤ 4096 → Tells line r → ⊥) → reportLine b line ≡ answer 5 b
+pub no-report : (b : Board) (line : List ℕ) → ((x : Sent) → TellsReport line x → ⊥) → reportLine b line ≡ answer 5 b
 unfolding reportLine
-no-report b line none = go (leb (length line) 4096) refl (wholeRow line) refl
+no-report b line none = go (leb (length line) 4096) refl (readSender line) refl
   where
-    go : (t : Bool) → leb (length line) 4096 ≡ t → (g : Got Row) → wholeRow line ≡ g → cond t (reportRead b g) (answer 5 b) ≡ answer 5 b
+    row : leb (length line) 4096 ≡ true → (d : ℕ) (rest : List ℕ) → readSender line ≡ got d rest → (g : Got Row) → wholeRow rest ≡ g
+        → reportRead b d g ≡ answer 5 b
+    row e d rest q misfit w = refl
+    row e d rest q (got r k) w = absurd (none (d sends r) (told-by line e d rest q r k w))
+
+    go : (t : Bool) → leb (length line) 4096 ≡ t → (g : Got ℕ) → readSender line ≡ g → cond t (reportStarted b g) (answer 5 b) ≡ answer 5 b
     go false e g q = refl
     go true e misfit q = refl
-    go true e (got r k) q = absurd (none r (leb-true (length line) 4096 e) (row-sound line q))
+    go true e (got d rest) q = row e d rest q (wholeRow rest) refl
 
--- the rows that lines tell, in their order: a line of at most 4,096 bytes that tells a row gives it, any other line gives none
-pub data RowsTold : List (List ℕ) → List Row → Type 0 where
-  no-line : RowsTold [] []
-  row-line : {l : List ℕ} {ls : List (List ℕ)} {r : Row} {rs : List Row} → length l ≤ 4096 → Tells l r → RowsTold ls rs → RowsTold (l ∷ ls) (r ∷ rs)
-  other-line : {l : List ℕ} {ls : List (List ℕ)} {rs : List Row} → ((r : Row) → length l ≤ 4096 → Tells l r → ⊥) → RowsTold ls rs → RowsTold (l ∷ ls) rs
+-- the reports that lines tell, in their order: a line that tells one gives it, any other line gives none
+pub data ReportsTold : List (List ℕ) → List Sent → Type 0 where
+  no-line : ReportsTold [] []
+  report-line : {l : List ℕ} {ls : List (List ℕ)} {x : Sent} {xs : List Sent} → TellsReport l x → ReportsTold ls xs → ReportsTold (l ∷ ls) (x ∷ xs)
+  other-line : {l : List ℕ} {ls : List (List ℕ)} {xs : List Sent} → ((x : Sent) → TellsReport l x → ⊥) → ReportsTold ls xs → ReportsTold (l ∷ ls) xs
 
--- every list of lines tells some rows
-pub lines-tell : (ls : List (List ℕ)) → (rs : List Row) × RowsTold ls rs
+-- every list of lines tells some reports
+pub lines-tell : (ls : List (List ℕ)) → (xs : List Sent) × ReportsTold ls xs
 lines-tell [] = ([], no-line)
-lines-tell (l ∷ ls) = go (leb (length l) 4096) refl (wholeRow l) refl (lines-tell ls)
+lines-tell (l ∷ ls) = go (leb (length l) 4096) refl (readSender l) refl (lines-tell ls)
   where
-    go : (t : Bool) → leb (length l) 4096 ≡ t → (g : Got Row) → wholeRow l ≡ g → (rs : List Row) × RowsTold ls rs → (rs : List Row) × RowsTold (l ∷ ls) rs
-    go false e g q k = (k .0, other-line {l = l} (λ r h t. omega (arith, leb-false (length l) 4096 e)) (k .1))
-    go true e misfit q k = (k .0, other-line (λ r h t. no-misfit (sym q ∙ row-complete l r t)) (k .1))
-    go true e (got r m) q k = (r ∷ k .0, row-line (leb-true (length l) 4096 e) (row-sound l q) (k .1))
+    row : leb (length l) 4096 ≡ true → (d : ℕ) (rest : List ℕ) → readSender l ≡ got d rest → (g : Got Row) → wholeRow rest ≡ g
+        → (xs : List Sent) × ReportsTold ls xs → (xs : List Sent) × ReportsTold (l ∷ ls) xs
+    row e d rest q misfit w k = (
+      k .0,
+      other-line {l = l}
+          (λ x t. no-misfit (sym w ∙ (ap wholeRow (got-rest (sym q ∙ started l x t)) ∙ row-complete (t .rest) (x .row) (t .told)))) (k .1),
+    )
+    row e d rest q (got r m) w k = ((d sends r) ∷ k .0, report-line (told-by l e d rest q r m w) (k .1))
 
--- the board after row lines is the board after the rows that they tell
-pub lines-report : {ls : List (List ℕ)} {rs : List Row} (b : Board) → RowsTold ls rs → reportLines b ls ≡ reports b rs
+    go : (t : Bool) → leb (length l) 4096 ≡ t → (g : Got ℕ) → readSender l ≡ g → (xs : List Sent) × ReportsTold ls xs
+        → (xs : List Sent) × ReportsTold (l ∷ ls) xs
+    go false e g q k = (k .0, other-line {l = l} (λ x t. omega (arith, leb-false (length l) 4096 e, t .short)) (k .1))
+    go true e misfit q k = (k .0, other-line (λ x t. no-misfit (sym q ∙ started l x t)) (k .1))
+    go true e (got d rest) q k = row e d rest q (wholeRow rest) refl k
+
+-- the board after row lines is the board after the reports that they tell
+pub lines-report : {ls : List (List ℕ)} {xs : List Sent} (b : Board) → ReportsTold ls xs → reportLines b ls ≡ reports b xs
 unfolding reportLines reports
 lines-report b no-line = refl
-lines-report b (row-line {l} {ls} {r} {rs} h t more) = rw (line-reports b l r h t) (lines-report (report b r .board) more)
+lines-report b (report-line {l} {ls} {x} t more) = rw (line-reports b l x t) (lines-report (report b (x .desk) (x .row) .board) more)
 lines-report b (other-line {l} none more) = rw (no-report b l none) (lines-report b more)
 
 -- at the end a place shows the canonical line of its row, or nothing

@@ -22,7 +22,8 @@ use Rattle.desktext.specs.declared.State.{State}
 use Rattle.desktext.specs.Line.{openingLine, reportLine}
 use Rattle.desktext.specs.Desk.{printed, answerLine, answersText, refusedText, linesText, deskText, reportLines, linesBoard, deskBoard}
 use Rattle.desktext.specs.Pieces.{waiting, keeping, over, standing, openedStanding, openedLine, afterLine, lineAnswer, endAnswer, mostKept, startState}
-use Rattle.desktext.specs.Pieces.{begun, keptByte, withoutReturn, afterByte, byteAnswer, fedState, fedText, lastStanding, lastText, finishText, piecesText}
+use Rattle.desktext.specs.Pieces.{begun, keptByte, withoutReturn, afterByte, byteAnswer, fedState, fedText, lastStanding, lastText, finishText}
+use Rattle.desktext.specs.Pieces.{piecesText}
 use Rattle.desktext.specs.Laws.Line.{opening-long, long-report}
 
 -- ---- Lines

@@ -1,9 +1,10 @@
+use Rattle.text.specs.Laws.Held.{missed}
 use mathlib.Core.Path.{sym, _∙_}
 use borrow.Author.Tests.{not-true, not-false}
 use borrow.Author.Needs.{needs}
 use Rattle.runway.specs.Time.{realTime}
 use Rattle.frontlines.specs.Heading.{readTime}
-use Rattle.frontlines.proofs.Held.{missed, held-as, none-tested, test-fails, test-holds}
+use Rattle.frontlines.proofs.Held.{held-as, none-tested, test-fails, test-holds}
 use Rattle.frontlines.proofs.Groups.{gap-off, gap-on}
 use Rattle.frontlines.proofs.gap_time.Statement.{statement}
 use Rattle.frontlines.proofs.gap_time.Tie as tie

@@ -1,8 +1,9 @@
+use Rattle.text.specs.Laws.Held.{missed}
 use mathlib.Core.Path.{ap}
 use borrow.Author.Tests.{not-true, not-false}
 use borrow.Author.Needs.{needs}
 use Rattle.text.specs.Read.{whole}
-use Rattle.frontlines.proofs.Held.{missed, held-as, whole-held, whole-left}
+use Rattle.frontlines.proofs.Held.{held-as, whole-held, whole-left}
 use Rattle.frontlines.proofs.Lines.{serial-off, serial-on}
 use Rattle.frontlines.proofs.read_serial.Statement.{statement}
 use Rattle.frontlines.proofs.read_serial.Tie as tie
