@@ -14,7 +14,7 @@ import re
 import subprocess
 import sys
 
-from rows import LONG_LINE, RUNWAYS, answer, cut, damaged, seeded_row
+from rows import LONG_LINE, RUNWAYS, answer, cut, damaged, regrouped, seeded_row
 
 SIDES = ["", "L", "C", "R"]
 
@@ -38,15 +38,16 @@ def opened(line):
 
 
 def report(line):
-    """The desk's digit, the time, the runway and the canonical row of a line, or None."""
+    """0, the desk's digit, the time, the runway and the canonical row of a line; or its refusal number alone."""
     start, row = line[:2], line[2:]
     if len(line) > LONG_LINE or start not in ["%d " % n for n in range(10)]:
-        return None
-    told = answer(row)
-    if told == "5":
-        return None
-    text = told.split(" ", 2)[2]
-    return [start[0]] + text.split(" ")[:2] + [text]
+        return ["5"]
+    told = answer(row).split(" ", 2)
+    # The place of a refused row is not printed.
+    if told[0] != "0":
+        return told[:1]
+    text = told[2]
+    return ["0", start[0]] + text.split(" ")[:2] + [text]
 
 
 def answers(message):
@@ -62,9 +63,9 @@ def answers(message):
 
 def reported(boards, told):
     """The answer to a report; a row that is taken joins those of its runway."""
-    if told is None:
-        return "5"
-    desk, time, runway, text = told
+    if told[0] != "0":
+        return told[0]
+    _, desk, time, runway, text = told
     if desk not in boards:
         return "23"
     taken = boards[desk].get(runway)
@@ -123,17 +124,19 @@ def seeded_line(rng, owners):
         row, owner = " ".join([time, runway]) + behind_runway(row), owners[runway]
     line = seeded_sender(rng, owner) + " " + row
     kind = rng.random()
-    if kind < 0.15:
+    if kind < 0.12:
         return damaged(rng, line)
-    if kind < 0.23:
+    if kind < 0.20:
+        return line[:2] + regrouped(rng, row)
+    if kind < 0.26:
         return rng.choice(NO_STARTS) + row
-    if kind < 0.27:
+    if kind < 0.29:
         return rng.choice(["", "1", "1 ", "2 ", "7 ", " ", "1\t", "1 )", "2 RUBBISH", "5 RUBBISH"])
-    if kind < 0.31:
+    if kind < 0.33:
         # right below, at and above the longest line, and the longest without its start
         size = 4096 + rng.choice([-1, 0, 0, 1, 1, 2, 3])
         return line[:2] + row.replace(" ", " " * (1 + size - len(line)), 1)
-    if kind < 0.33:
+    if kind < 0.35:
         return "1 " + "A" * rng.choice([4094, 4095, 4097, 4098, 8191, 8192, 8193, 20000])
     return line
 
@@ -184,6 +187,15 @@ STORED = "".join(
         "",
         "1 01120641 07 6/6/6 DRY/DRY/DRY)",
         "1 01120641 07 6/6/6 DRY/DRY/DRY" + " " * 5000,
+        # each group of a row at fault, whoever sends it
+        "1 01320641 07 6/6/6 DRY/DRY/DRY",
+        "2 01120641 07X 6/6/6 DRY/DRY/DRY",
+        "3 01120641 07 6/6/7 DRY/DRY/DRY",
+        "1 01120641 07 5/5/5 NR/NR/NR",
+        "1 01120641 07 5/5/5 25/25/25 NR/NR/NR",
+        "1 01120641 07 5/5/5 25/25/25 NR/NR/NR ICE/ICES/ICE",
+        "1 01120641 07 5/5/5 25/25/25 NR/NR/NR ICE/ICE/ICES",
+        "1 01120641 07 5/5/5 25/25/25 NR/NR/NR ICE/ICE/ICE 00\r",
         stretched("1 01120641 07 6/6/6 DRY/DRY/DRY", 4097),
         stretched("1 01120641 07 6/6/6 DRY/DRY/DRY", 4096),
         # other starts

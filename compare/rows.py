@@ -1,12 +1,15 @@
 #!/usr/bin/env python3
-"""A second reading of document 01's "A runway row" and agreement check.
+"""A second reading of document 01's "A runway row" and agreement check, and of the places in a row that request 2 of document 02 asks for.
 
     python3 compare/rows.py lines             writes the rows of test_run's input, one a line: the edges, then seeded ones, good and damaged
-    python3 compare/rows.py answers < lines   writes what each is answered: 5, or 0, the number of disagreeing thirds and the canonical row
+    python3 compare/rows.py answers < lines   writes what each is answered: the refusal number and its place in the line, or 0, the number of
+                                              disagreeing thirds and the canonical row; a line that is too long for the desk is 5, without a place
 
-The model takes a line apart before it judges anything: spaces first, then the number of slashes tells a short row from a full one.
+The model takes a line apart before it judges anything: spaces first, then the number of slashes tells a short row from a full one. What is no
+row is taken apart once more, at its spaces alone, to find its leftmost fault.
 """
 import random
+import re
 import sys
 
 CONTAMINANTS = [
@@ -106,6 +109,81 @@ def good_third(code, coverage, depth, description):
     return depth in DEPTHS and description in LEAST_DEPTH and LEAST_DEPTH[description] <= DEPTHS[depth]
 
 
+# ---- The leftmost fault of a line that is no row
+
+
+def joined(part):
+    """Three of a part."""
+    return "(%s)/(%s)/(%s)" % (part, part, part)
+
+
+# The longest description comes first, so that it is the one taken. Several spaces may stand for one.
+DESCRIPTION = "|".join(sorted(DESCRIPTIONS, key=len, reverse=True)).replace(" ", " +")
+SHAPES = {
+    "codes": re.compile(joined("[0-6]")),
+    "coverages": re.compile(joined("NR|25|50|75|100")),
+    "depths": re.compile(joined("NR|0[3-9]|[1-9][0-9]|[1-9][0-9][0-9]")),
+    "descriptions": re.compile(joined(DESCRIPTION)),
+    "short": re.compile(joined(DESCRIPTION) + "( +(0[1-9]|[1-9][0-9]))?"),
+}
+
+
+def words_of(line, start=0):
+    """What stands between the spaces, with the place of each; where nothing stands any more, it is the line's end."""
+    return [(m[0], m.start()) for m in re.compile("[^ ]+").finditer(line, start)] + [("", len(line))] * 6
+
+
+def single(text):
+    return " ".join(text.split())
+
+
+def fault(line):
+    """The number of the group at fault and the place of its first byte, or None where there is no fault."""
+    if not line or line[0] == " ":
+        return 5, 0
+    (time, _), (runway, at_runway), (codes, at_codes), (coverages, at_coverages), (depths, at_depths), (_, at_descriptions) = words_of(line)[:6]
+    if not real_time(time):
+        return 5, 0
+    if runway not in RUNWAYS:
+        return 24, at_runway
+    if not SHAPES["codes"].fullmatch(codes):
+        return 25, at_codes
+    short = SHAPES["short"].fullmatch(line, at_coverages)
+    if short:
+        allowed = codes == "6/6/6" or short.group(1, 2, 3) == ("DRY", "DRY", "DRY")
+        return None if allowed else (26, at_coverages)
+    coverages = SHAPES["coverages"].fullmatch(coverages)
+    if not coverages:
+        return 26, at_coverages
+    depths = SHAPES["depths"].fullmatch(depths)
+    if not depths:
+        return 26, at_depths
+    descriptions = SHAPES["descriptions"].match(line, at_descriptions)
+    if not descriptions:
+        return 27, at_descriptions
+    kinds = [single(text) for text in descriptions.groups()]
+    if any(c != "NR" and k not in CONTAMINANTS for c, k in zip(coverages.groups(), kinds)):
+        return 26, at_coverages
+    if any(d != "NR" and int(d) < LEAST_DEPTH.get(k, 1000) for d, k in zip(depths.groups(), kinds)):
+        return 26, at_depths
+    behind = descriptions.end()
+    if behind == len(line):
+        return None
+    if line[behind] != " ":
+        return 28, behind
+    (width, at_width), (_, at_next) = words_of(line, behind)[:2]
+    if width not in WIDTHS:
+        return 28, at_width
+    return None if line.endswith(width) and at_next == len(line) else (28, at_next)
+
+
+def refused(line):
+    return "%d %d" % fault(line)
+
+
+# ---- The agreement check, and the answer
+
+
 def agrees(code, _coverage, depth, description):
     if description in DEEP_CODES:
         return code in DEEP_CODES[description][DEPTHS.get(depth, 0) > 3]
@@ -113,13 +191,15 @@ def agrees(code, _coverage, depth, description):
 
 
 def answer(line):
-    row = parts(line) if len(line) <= LONG_LINE else None
-    if row is None:
+    if len(line) > LONG_LINE:
         return "5"
+    row = parts(line)
+    if row is None:
+        return refused(line)
     time, runway, codes, coverages, depths, descriptions, width = row
     thirds = list(zip(codes, coverages, depths, descriptions))
     if not (real_time(time) and runway in RUNWAYS and all(good_third(*t) for t in thirds)):
-        return "5"
+        return refused(line)
     groups = [codes, coverages, depths, descriptions]
     if set(coverages + depths) == {"NR"} and (set(codes) == {"6"} or set(descriptions) == {"DRY"}):
         groups = [codes, descriptions]
@@ -244,7 +324,37 @@ NR/6/6 DRY/DRY/DRY
 6/6/0 NR/NR/25 NR/NR/NR DRY/DRY/DRY\tSNOW ON TOP OF ICE
 6/6/6 DRY/DRY/DRY)
 6/6/6 DRY/DRY/DRY 30)
-6/6/6 DRY/DRY/DRY.""".replace("\\t", "\t").split("\n")
+6/6/6 DRY/DRY/DRY.
+6/6/6X DRY/DRY/DRY
+6/6/6 DRY/DRY/DRYX
+6/6/6 DRY/DRY/DRY 30 X
+6/6/6 DYR/DRY/DRY
+6/6/6 NR/NR/NR 00
+6/6/6 NR/NR/NR 100
+6/6/5 DRY/DRY/NR 30
+5/5/5 25/NR/NRX NR/NR/NR FROST/FROST/FROST
+5/5/5 25/NR/NR NR/NR/NRFROST/FROST/FROST
+5/5/5 25/NR/NR
+5/5/5 03/NR/NR SLUSH/WET/WET
+5/5/5 25/NR/NR 02/NR/NR SLUSH/ICE/X
+5/5/5 25/NR/NR 03/NR/NR STANDING WATER/ICE/X
+5/5/5 25/NR/NR 03/NR/NR STANDING WATER/ICE/ICE 00
+5/5/5 25/NR/NR NR/NR/NR DRY/FROST/FROST 00
+5/5/5 NR/NR/25 04/NR/NR ICE/ICE/DRY
+5/5/5 25/NR/NR NR/NR/NR FROST/FROST
+5/5/5 25/NR/NR NR/NR/NR FROST/FROST/
+5/5/5 25/NR/NR NR/NR/NR FROST/FROST/FRST
+5/5/5 25/NR/NR NR/NR/NR FROSTX/FROST/FROST
+5/5/5 25/NR/NR NR/NR/NR FROST/FROST /FROST
+5/5/5 25/NR/NR NR/NR/NR FROST/FROST/FROSTX 30
+5/5/5 25/NR/NR NR/NR/NR FROST/FROST/FROST/FROST
+5/5/5 25/NR/NR NR/NR/NR FROST/FROST/ICEBERG
+5/5/5 25/NR/NR NR/NR/NR FROST/FROST/DRY SNOW ON TOP OF X
+5/5/5 25/NR/NR NR/NR/NR FROST/DRY SNOW ON TOP OF X/FROST
+5/5/5 25/NR/NR NR/NR/NR FROST/FROST/FROST 30
+5/5/5 25/NR/NR NR/NR/NR FROST/FROST/FROST 30X
+5/5/5 25/NR/NR NR/NR/NR FROST/FROST/FROST 30 X
+5/5/5 25/NR/NR NR/NR/NR FROST/FROST/FROST 00""".replace("\\t", "\t").split("\n")
 
 
 def long_row(size):
@@ -260,6 +370,9 @@ def edges():
     plain += ["01120640 %s 6/6/6 DRY/DRY/DRY" % r for r in RUNWAY_EDGES]
     plain += ["01120640 07R " + g for g in GROUPS]
     plain += ["01120640  07R   6/6/6  DRY/DRY/DRY", " " + GOOD, GOOD + " ", "\t" + GOOD, GOOD + "\t", " ", ")", "\x00", "\xff"]
+    # spaces at the end of groups that are missing behind them
+    plain += [" ", "   ", "01120640 ", "01120640 07 ", "01120640 07  6/6/6 ", "01120640 07 5/5/5 25/NR/NR  ", "01120640 07 6/6/6 NR/NR/NR NR/NR/NR "]
+    plain += ["01120640 07 6/6/6 DRY/DRY/DRY ", "01120640 07 5/5/5 25/NR/NR NR/NR/NR ICE/ICE/ICE  ", "01120640 07 5/5/5 25/NR/NR NR/NR/NR ICE/ICE/ICE 30 "]
     plain += ["01120640 07 L 6/6/6 DRY/DRY/DRY", "0112 0640 07 6/6/6 DRY/DRY/DRY", "01120640", "01120640 07", "0112064007 6/6/6 DRY/DRY/DRY"]
     plain += [long_row(n) for n in (LONG_LINE, LONG_LINE + 1, 70000)]
     ended = [(line, "\n") for line in plain]
@@ -313,13 +426,35 @@ def damaged(rng, line):
     return line[:i] + middle + line[i + 1 :]
 
 
+def regrouped(rng, line):
+    """Groups left out at the end or within, one put in, spaces put at an end, or something glued to a group."""
+    words = line.split(" ")
+    i = rng.randrange(len(words))
+    extra = rng.choice(["30", "00", "X", "NR/NR/NR", "DRY", "25/NR/NR", "ICE/ICE/ICE"])
+    kind = rng.randrange(6)
+    if kind == 0:
+        words = words[:i]
+    elif kind == 1:
+        del words[i]
+    elif kind == 2:
+        words.insert(i, extra)
+    elif kind == 3:
+        words.append(extra)
+    elif kind == 4:
+        words[i] += rng.choice(["X", "/", "/NR", "\t", "0", ")"])
+    return rng.choice(["", "", "", "", " "]) + " ".join(words) + rng.choice(["", "", "", "", " ", "  "])
+
+
 def seeded(seed, count):
     rng = random.Random(seed)
     lines = []
     for _ in range(count):
         line = seeded_row(rng)
-        if rng.random() < 0.4:
+        kind = rng.random()
+        if kind < 0.3:
             line = damaged(rng, line)
+        elif kind < 0.5:
+            line = regrouped(rng, line)
         lines.append(line + rng.choice(["\n", "\n", "\n", "\r\n"]))
     return "".join(lines)
 

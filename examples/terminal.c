@@ -26,7 +26,7 @@ static const char *const words[] = {
     [PHENGARYL_LINE_1_OR_2] = "line 1 or 2 (addresses, filing time and originator) is missing or wrong",
     [PHENGARYL_LINE_3] = "line 3 (the heading) is missing or wrong",
     [PHENGARYL_OUTLINE] = "the outline of the message is wrong",
-    [PHENGARYL_NO_ROW] = "this is no valid runway row, or a report without a desk's digit",
+    [PHENGARYL_NO_ROW] = "the row's time is wrong or missing, or this is a report without a desk's digit",
     [PHENGARYL_NINTH_ROW] = "there are more than eight rows",
     [PHENGARYL_RUNWAY_TWICE] = "the same runway is reported twice",
     [PHENGARYL_WRONG_ITEMS] = "the awareness line is wrong",
@@ -45,6 +45,11 @@ static const char *const words[] = {
     [PHENGARYL_NO_REPORT] = "the board holds no report",
     [PHENGARYL_OTHERS_RUNWAY] = "the runway belongs to the other desk",
     [PHENGARYL_NO_DESK] = "there is no such desk",
+    [PHENGARYL_WRONG_RUNWAY] = "the row's runway is wrong or missing",
+    [PHENGARYL_WRONG_CODES] = "the row's codes are wrong or missing",
+    [PHENGARYL_WRONG_COVERAGE_OR_DEPTH] = "the row's coverage or depth is wrong or missing",
+    [PHENGARYL_WRONG_DESCRIPTIONS] = "the row's descriptions are wrong or missing",
+    [PHENGARYL_WRONG_WIDTH] = "the row's width or what follows it is wrong",
 };
 
 static int refused(const char *what, uint8_t refusal)
@@ -174,7 +179,7 @@ static bool has_start(const line *report)
 /* What became of a line that was reported, and the row that it holds. */
 static phengaryl_row_read report_line(phengaryl_board *board, const line *report)
 {
-    phengaryl_row_read read = { PHENGARYL_NO_ROW, { 0 } };
+    phengaryl_row_read read = { PHENGARYL_NO_ROW, 0, { 0 } };
 
     if (report->length <= PHENGARYL_LONGEST_TEXT && has_start(report)) {
         read = phengaryl_read_row(report->bytes + START, report->length - START);

@@ -49,7 +49,7 @@ enum phengaryl_refusal {
     PHENGARYL_LINE_1_OR_2 = 2,           /* line 1 (priority and addresses) or line 2 (filing time and originator) is missing or wrong */
     PHENGARYL_LINE_3 = 3,                /* line 3 (the heading) is missing or wrong */
     PHENGARYL_OUTLINE = 4,               /* line 4 or 5 is wrong, there is no row, a line or the closing ) is missing, or bytes follow the end */
-    PHENGARYL_NO_ROW = 5,                /* a runway row breaks its own rules; at the desk: the line has no desk's digit and space, or no row behind them */
+    PHENGARYL_NO_ROW = 5,                /* a row's time is wrong or missing; at the desk also: no desk's digit and space, nothing behind them, or the line is too long */
     PHENGARYL_NINTH_ROW = 6,             /* a ninth line that is not empty stands where only eight rows may */
     PHENGARYL_RUNWAY_TWICE = 7,          /* the same runway is reported twice */
     PHENGARYL_WRONG_ITEMS = 8,           /* the awareness line: an item is wrong, out of order, repeated, one too many, or the line is empty before the closing ) */
@@ -70,7 +70,13 @@ enum phengaryl_refusal {
     PHENGARYL_NOT_LATER = 20,            /* the report is not later than the row shown */
     PHENGARYL_NO_REPORT = 21,            /* the board holds no report */
     PHENGARYL_OTHERS_RUNWAY = 22,        /* the runway belongs to the other desk */
-    PHENGARYL_NO_DESK = 23               /* there is no such desk */
+    PHENGARYL_NO_DESK = 23,              /* there is no such desk */
+    /* The groups of a row behind its time */
+    PHENGARYL_WRONG_RUNWAY = 24,         /* the runway is wrong or missing */
+    PHENGARYL_WRONG_CODES = 25,          /* the codes are wrong or missing */
+    PHENGARYL_WRONG_COVERAGE_OR_DEPTH = 26, /* coverage or depth is wrong, missing, forbidden by its description, or left out where the row may not be short */
+    PHENGARYL_WRONG_DESCRIPTIONS = 27,   /* the descriptions are wrong or missing */
+    PHENGARYL_WRONG_WIDTH = 28           /* the width, or what follows it or the descriptions, is wrong */
 };
 
 /*
@@ -141,7 +147,8 @@ typedef struct phengaryl_row {
 
 /* A row that was read. */
 typedef struct phengaryl_row_read {
-    uint8_t refusal;                     /* 0 or 5 */
+    uint8_t refusal;                     /* 0, 5, or 24 to 28 */
+    size_t place;                        /* the first byte of the group at fault; 0 where it is taken */
     phengaryl_row row;                   /* zeros where it is refused */
 } phengaryl_row_read;
 
@@ -215,7 +222,8 @@ typedef struct phengaryl_record {
 
 /* A message that was read. */
 typedef struct phengaryl_reading {
-    uint8_t refusal;                     /* 0, or 1 to 12 */
+    uint8_t refusal;                     /* 0, 1 to 12, or 24 to 28 */
+    size_t place;                        /* the byte that the refusal is about; 0 where it is taken */
     phengaryl_record record;             /* zeros where it is refused */
 } phengaryl_reading;
 

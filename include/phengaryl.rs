@@ -8,7 +8,8 @@
 //!     rustc --edition 2021 -L native=target/staticlib -l static=phengaryl main.rs
 //!
 //! The structs and their fields are explained in the header. 0 stands for none or not reported everywhere, and `default()` is all zeros.
-//! The functions answer as in C. The methods answer `Ok`, or `Err` with the number of the refusal, and make their buffers themselves.
+//! The functions answer as in C. The methods answer `Ok`, or `Err` with the number of the refusal, and make their buffers themselves. Those that
+//! read a text answer `Err` with the place too.
 //! include/check.sh tells whether this file and the library's sources declare the same.
 #![allow(dead_code)]
 
@@ -52,6 +53,11 @@ pub mod refusal {
     pub const NO_REPORT: u8 = 21;
     pub const OTHERS_RUNWAY: u8 = 22;
     pub const NO_DESK: u8 = 23;
+    pub const WRONG_RUNWAY: u8 = 24;
+    pub const WRONG_CODES: u8 = 25;
+    pub const WRONG_COVERAGE_OR_DEPTH: u8 = 26;
+    pub const WRONG_DESCRIPTIONS: u8 = 27;
+    pub const WRONG_WIDTH: u8 = 28;
 }
 
 /// The fifteen descriptions of a surface; 0 stands for NR.
@@ -116,6 +122,7 @@ pub struct Row {
 #[derive(Clone, Copy, Debug, Default, PartialEq, Eq)]
 pub struct RowRead {
     pub refusal: u8,
+    pub place: usize,
     pub row: Row,
 }
 
@@ -213,6 +220,7 @@ pub struct Record {
 #[derive(Clone, Copy, Debug, Default, PartialEq, Eq)]
 pub struct Reading {
     pub refusal: u8,
+    pub place: usize,
     pub record: Record,
 }
 
@@ -410,10 +418,17 @@ pub fn board_notice(desk: &[u8], model: &[u8], out: &mut [u8]) -> Written {
 
 // ---- The same with results
 
+/// Why a text was refused, and the place of the byte in it that the refusal is about.
+#[derive(Clone, Copy, Debug, PartialEq, Eq)]
+pub struct Refused {
+    pub refusal: u8,
+    pub place: usize,
+}
+
 impl Record {
-    pub fn read(message: &[u8]) -> Result<Record, u8> {
-        let Reading { refusal, record } = read(message);
-        taken(refusal, record)
+    pub fn read(message: &[u8]) -> Result<Record, Refused> {
+        let Reading { refusal, place, record } = read(message);
+        taken(refusal, record).map_err(|refusal| Refused { refusal, place })
     }
 
     /// The canonical text.
@@ -428,9 +443,9 @@ impl Record {
 }
 
 impl Row {
-    pub fn read(text: &[u8]) -> Result<Row, u8> {
-        let RowRead { refusal, row } = read_row(text);
-        taken(refusal, row)
+    pub fn read(text: &[u8]) -> Result<Row, Refused> {
+        let RowRead { refusal, place, row } = read_row(text);
+        taken(refusal, row).map_err(|refusal| Refused { refusal, place })
     }
 
     /// The canonical text, without a line end; none where the row is not valid.

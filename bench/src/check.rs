@@ -2,6 +2,7 @@
 use compare::generate::{self, Rng};
 use compare::items::{Banks, Item as OtherItem, Name};
 use compare::reader::{self, Record as OtherRecord};
+use compare::refused::Refused;
 use compare::report::Report;
 use compare::row::{Row as OtherRow, Runway, Third as OtherThird};
 
@@ -9,6 +10,14 @@ use crate::fast::{self, Item, Record, Row, Third};
 
 /// What a lent byte is before a call, so that a touched one shows.
 const UNTOUCHED: u8 = 0xa5;
+
+/// What the tuned reader tells of a refused message: no place, and 5 for a row whichever of its groups is at fault.
+fn coarse(refused: Refused) -> u8 {
+    match refused.number {
+        24..=28 => 5,
+        number => number,
+    }
+}
 
 /// The second reader's record in the places of the tuned one.
 fn held(other: &OtherRecord) -> Record {
@@ -252,7 +261,7 @@ fn written(rng: &mut Rng, report: &mut Report, record: &Record) -> bool {
 /// Reads into a record that still holds the message before; gives whether an altered record was valid.
 fn message(rng: &mut Rng, report: &mut Report, record: &mut Record) -> Option<bool> {
     let message = generate::message(rng).message;
-    let other = reader::read(&message);
+    let other = reader::read(&message).map_err(coarse);
     let (number, expected_record) = match &other {
         Ok(other) => (0, held(other)),
         Err(number) => (*number, Record::BLANK),
@@ -317,7 +326,7 @@ fn line_ends(report: &mut Report) -> usize {
         for (end, start) in ROW_ENDS.iter().flat_map(|end| LINE_STARTS.map(|start| (end, start))) {
             for line_end in ["", "\n", "\r\n", "\n\n"] {
                 let message = format!("{front}{rows}01120640 18 {end}{line_end}{start}\n");
-                let expected = reader::read(message.as_bytes()).err().unwrap_or(0);
+                let expected = reader::read(message.as_bytes()).err().map_or(0, coarse);
                 let told = fast::read(message.as_bytes(), &mut Record::BLANK.clone());
                 if told != expected {
                     report.differ("a line's end", message.as_bytes(), &expected.to_string(), &told.to_string());
@@ -354,6 +363,9 @@ pub fn run(count: usize, seed: u64) -> bool {
 
 #[cfg(test)]
 mod tests {
+    use compare::edges::Example;
+    use compare::refused::Refused;
+
     #[test]
     fn the_second_reader_agrees() {
         assert!(super::run(4000, 1));
@@ -361,9 +373,9 @@ mod tests {
 
     #[test]
     fn the_stored_messages_by_hand() {
-        for (message, number) in compare::edges::by_hand() {
-            let told = crate::fast::read(&message, &mut crate::fast::Record::BLANK.clone());
-            assert_eq!(told, number, "{}", message.escape_ascii());
+        for Example { text, number, place } in compare::edges::by_hand() {
+            let told = crate::fast::read(&text, &mut crate::fast::Record::BLANK.clone());
+            assert_eq!(told, super::coarse(Refused::at(number, place)), "{}", text.escape_ascii());
         }
     }
 }

@@ -4,9 +4,9 @@
 #     compare/fuzz/run.sh DIRECTORY [SECONDS]
 #
 # DIRECTORY holds libphengaryl.a; `rt staticlib phengaryl` writes it to target/staticlib. The branches of the second reader
-# are counted, so that an input that takes a new way in it is kept and varied. The messages of the program `test_run`, every
-# third with the one behind it as a pair, and the input of `desk`, alone and with every tenth message as the model of its
-# board's notice, come first. It needs an x86-64 machine and CLANG (clang), with its fuzzer. What it found stands in target/corpus; the status is 0 only if nothing differed.
+# are counted, so that an input that takes a new way in it is kept and varied. The messages and rows of the program
+# `test_run`, every third message with the one behind it as a pair, and the input of `desk`, alone and with every tenth
+# message as the model of its board's notice, come first. It needs an x86-64 machine and CLANG (clang), with its fuzzer. What it found stands in target/corpus; the status is 0 only if nothing differed.
 set -eu
 
 if [ $# -lt 1 ] || [ $# -gt 2 ]; then
@@ -31,12 +31,14 @@ import sys
 
 corpus, crates = map(pathlib.Path, sys.argv[1:])
 stored = (crates / "test_run/stdin").read_bytes()
-messages, at = [], 0
+parts, at = {b"M": [], b"R": []}, 0
 while at < len(stored):
     size = int(stored[at + 1:at + 6])
-    if stored.startswith(b"M", at):
-        messages.append(stored[at + 7:at + 7 + size])
+    parts[stored[at:at + 1]].append(stored[at + 7:at + 7 + size])
     at += 7 + size + 1
+messages = parts[b"M"]
+for n, row in enumerate(parts[b"R"]):
+    (corpus / f"row-{n}").write_bytes(b"R" + row)
 for n, message in enumerate(messages):
     (corpus / f"message-{n}").write_bytes(b"M" + message)
 for n in range(0, len(messages) - 1, 3):

@@ -9,6 +9,9 @@ pub const MOST_RUNWAYS: usize = 8;
 /// What a line has before its row: the desk's digit and a space.
 const START: usize = 2;
 
+/// What a line is refused by that has no such start, or that is not looked at.
+const NO_ROW: u8 = 5;
+
 /// A runway of a board and the desk that reports it.
 #[derive(Clone, Copy, Debug, Default, PartialEq, Eq)]
 pub struct Owned {
@@ -83,7 +86,8 @@ pub fn notice(desk: &[u8], model: &[u8]) -> Result<Vec<u8>, u8> {
 fn run(input: &[u8]) -> Option<Run> {
     let lines = lines(input);
     let (first, reports) = lines.split_first()?;
-    Some(Board::read(first)?.after(reports.iter().map(|line| Report::cut(line)?.read())))
+    let reports = reports.iter().map(|line| Report::cut(line).ok_or(NO_ROW).and_then(|report| report.read()));
+    Some(Board::read(first)?.after(reports))
 }
 
 fn printed(run: Option<Run>) -> Vec<u8> {
@@ -130,12 +134,14 @@ impl Report {
         }
     }
 
-    /// None where it is refused by 5, whoever sends it. A line that would be too long with its start is not looked at.
-    fn read(&self) -> Option<Sent> {
+    /// What is no row is refused by the number of its fault, whoever sends it. A line that would be too long with its start
+    /// is not looked at.
+    fn read(&self) -> Result<Sent, u8> {
         if START + self.line.len() > LONGEST_MESSAGE {
-            return None;
+            return Err(NO_ROW);
         }
-        Some(Sent { desk: self.desk, row: Row::read(&self.line)? })
+        let row = Row::read(&self.line).map_err(|refused| refused.number)?;
+        Ok(Sent { desk: self.desk, row })
     }
 }
 
@@ -180,9 +186,9 @@ impl Board {
         Board::open(aerodrome, &list)
     }
 
-    /// What is no report, or no row, is answered by 5 before the board is asked.
-    fn after(mut self, reports: impl Iterator<Item = Option<Sent>>) -> Run {
-        let answers = reports.map(|sent| sent.ok_or(5).and_then(|sent| self.take(sent)).err().unwrap_or(0)).collect();
+    /// What is no report, or no row, is answered before the board is asked.
+    fn after(mut self, reports: impl Iterator<Item = Result<Sent, u8>>) -> Run {
+        let answers = reports.map(|sent| sent.and_then(|sent| self.take(sent)).err().unwrap_or(0)).collect();
         Run { board: self, answers }
     }
 
@@ -288,7 +294,7 @@ mod tests {
         let input = format!("XQAA 07R/2\n2 {ROW}\n2 {earlier}\n2 {later}");
         assert_eq!(told(&input), format!("OPEN\n0\n20\n0\n{later}\n"));
         let input = format!("XQAA 07L/1\n1 {ROW}\n1 \n1 {ROW})\n1 )\n)\n\n");
-        assert_eq!(told(&input), "OPEN\n18\n5\n5\n5\n5\n5\n");
+        assert_eq!(told(&input), "OPEN\n18\n5\n26\n5\n5\n5\n");
     }
 
     #[test]
@@ -306,17 +312,39 @@ mod tests {
         assert_eq!(last(&[&format!("2 {ROW}\r")]), "0");
         assert_eq!(last(&[&format!("2 2 {ROW}")]), "5");
         // At the end of the input a CR without LF is text, behind a row as behind a start.
-        for line in [format!("2 {ROW}\r"), "2 \r".to_string(), "2\r".to_string()] {
+        assert_eq!(told(&format!("XQAA 07R/2\n2 {ROW}\r")), "OPEN\n26\n");
+        for line in ["2 \r", "2\r"] {
             assert_eq!(told(&format!("XQAA 07R/2\n{line}")), "OPEN\n5\n", "{line:?}");
         }
     }
 
     #[test]
     fn no_row_comes_before_no_desk() {
-        for line in ["3 RUBBISH", "0 RUBBISH", "9 01120640 19 6/6/6 DRY/DRY/DRY", "3 ", "0  ", "1 RUBBISH"] {
+        for line in ["3 RUBBISH", "0 RUBBISH", "3 ", "0  ", "1 RUBBISH"] {
             assert_eq!(last(&[line]), "5", "{line}");
         }
+        assert_eq!(last(&["9 01120640 19 6/6/6 DRY/DRY/DRY"]), "24");
         assert_eq!(last(&[&format!("3  {ROW}")]), "5");
+    }
+
+    /// The leftmost group at fault is told, whoever sends the row and wherever its runway belongs.
+    #[test]
+    fn each_group_of_a_row_has_its_number() {
+        for (row, number) in [
+            ("01320640 07R 6/6/6 DRY/DRY/DRY", "5"),
+            ("01120640 19 6/6/6 DRY/DRY/DRY", "24"),
+            ("01120640 07R 6/6/7 DRY/DRY/DRY", "25"),
+            ("01120640 07R 5/5/5 NR/NR/NR", "26"),
+            ("01120640 07R 5/5/5 25/25/25 NR/NR/NR ICE/ICE/ICED/ICE", "28"),
+            ("01120640 07R 5/5/5 25/25/25 NR/NR/NR ICED/ICE/ICE", "27"),
+            ("01120640 07R 5/5/5 25/25/25 NR/NR/NR ICE/ICE/ICE 00", "28"),
+        ] {
+            for desk in ["0", "1", "2", "3"] {
+                assert_eq!(last(&[&format!("{desk} {row}")]), number, "{desk} {row}");
+                assert_eq!(last(&[&format!("{desk} {row}\r")]), number, "{desk} {row}");
+                assert_eq!(last(&[&format!("{desk}{row}")]), "5", "{desk}{row}");
+            }
+        }
     }
 
     #[test]
@@ -353,13 +381,15 @@ mod tests {
 
     #[test]
     fn long_lines() {
-        // The digit and the space are counted; CR LF is not.
+        // The digit and the space are counted; CR LF is not. A longer line is 5 whatever stands in it.
         let stretched = |length: usize| {
             let line = format!("1 {ROW}");
             line.replace(" 07R", &format!("{}07R", " ".repeat(1 + length - line.len())))
         };
         assert_eq!(told(&format!("XQAA 07R/1\n{}\r\n", stretched(4096))), format!("OPEN\n0\n{ROW}\n"));
         assert_eq!(told(&format!("XQAA 07R/1\n{}\n1 {ROW}\n", stretched(4097))), format!("OPEN\n5\n0\n{ROW}\n"));
+        let no_runway = |length| stretched(length).replace("07R", "19R");
+        assert_eq!(told(&format!("XQAA 07R/1\n{}\n{}\n", no_runway(4096), no_runway(4097))), "OPEN\n24\n5\n");
     }
 
     #[test]
@@ -579,7 +609,7 @@ mod tests {
         ];
         let told = with(|shift| shift.reports = reports.to_vec());
         let shown = "01120610 07L 6/6/6 NR/NR/NR\n01120640 18L 6/6/6 DRY/DRY/DRY\n";
-        assert_eq!(told, format!("OPEN\n0\n20\n22\n0\n18\n5\n5\n5\n23\n{shown}"));
+        assert_eq!(told, format!("OPEN\n0\n20\n22\n0\n18\n26\n5\n5\n23\n{shown}"));
     }
 
     #[test]

@@ -4,6 +4,7 @@ mod damage;
 mod desk;
 mod numbers;
 mod records;
+mod rows;
 #[cfg(feature = "library")]
 mod structs;
 mod typing;

@@ -19,7 +19,9 @@ mod judge;
 mod library;
 mod models;
 mod observations;
+mod places;
 pub mod reader;
+pub mod refused;
 pub mod report;
 pub mod row;
 #[cfg(feature = "library")]

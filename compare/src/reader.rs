@@ -1,8 +1,10 @@
 //! The notice as a whole: reading, writing, listing and sameness.
 use crate::assess::agreement;
 use crate::items::{self, Item};
+use crate::places::runway_place;
+use crate::refused::Refused;
 use crate::row::{read_time, Row};
-use crate::text::{digits, exactly, groups, letters, lines, split};
+use crate::text::{digits, exactly, groups, letters, placed_lines, split, Line};
 
 pub const LONGEST_MESSAGE: usize = 4096;
 pub const MOST_ADDRESSES: usize = 8;
@@ -65,28 +67,71 @@ impl Record {
     }
 }
 
-/// The record of a message, or the refusal number.
-pub fn read(message: &[u8]) -> Result<Record, u8> {
-    if message.len() > LONGEST_MESSAGE {
-        return Err(1);
+/// The lines of a message that are still to be read.
+struct Lines<'m> {
+    rest: std::vec::IntoIter<Line<'m>>,
+    /// The message's length: the place of a missing line, and of a missing `)`.
+    length: usize,
+}
+
+impl<'m> Lines<'m> {
+    fn new(message: &'m [u8]) -> Lines<'m> {
+        Lines { rest: placed_lines(message).into_iter(), length: message.len() }
     }
-    let mut lines = lines(message).into_iter();
-    let (priority, addresses) = lines.next().and_then(addressing).ok_or(2)?;
-    let (filed, originator) = lines.next().and_then(filing).ok_or(2)?;
-    let (region, heading_serial, heading_aerodrome, time) = lines.next().and_then(heading).ok_or(3)?;
-    let serial = lines.next().and_then(opening).ok_or(4)?;
-    let aerodrome = lines.next().and_then(letters).ok_or(4)?;
+
+    /// The next line, or the number of a missing one.
+    fn next(&mut self, number: u8) -> Result<Line<'m>, Refused> {
+        self.rest.next().ok_or(self.missing(number))
+    }
+
+    fn missing(&self, number: u8) -> Refused {
+        Refused::at(number, self.length)
+    }
+}
+
+impl Line<'_> {
+    /// What the line says, or the number at its first byte, whatever in it is at fault.
+    fn says<T>(&self, number: u8, read: impl Fn(&[u8]) -> Option<T>) -> Result<T, Refused> {
+        read(self.text).ok_or_else(|| self.refused(number))
+    }
+
+    fn refused(&self, number: u8) -> Refused {
+        Refused::at(number, self.place)
+    }
+
+    /// Where the line's last bytes begin, `count` of them.
+    fn last(&self, count: usize) -> usize {
+        self.place + self.text.len() - count
+    }
+}
+
+/// The record of a message, or the refusal number and its place.
+pub fn read(message: &[u8]) -> Result<Record, Refused> {
+    if message.len() > LONGEST_MESSAGE {
+        return Err(Refused::at(1, LONGEST_MESSAGE));
+    }
+    let mut lines = Lines::new(message);
+    let (priority, addresses) = lines.next(2)?.says(2, addressing)?;
+    let (filed, originator) = lines.next(2)?.says(2, filing)?;
+    let third = lines.next(3)?;
+    let (region, heading_serial, heading_aerodrome, time) = third.says(3, heading)?;
+    let fourth = lines.next(4)?;
+    let serial = fourth.says(4, opening)?;
+    let fifth = lines.next(4)?;
+    let aerodrome = fifth.says(4, letters)?;
     let Body { rows, items, plain } = body(&mut lines)?;
-    if lines.next().is_some() {
-        return Err(4);
+    // The first byte after the end begins a line, be it an empty one.
+    if let Some(line) = lines.rest.next() {
+        return Err(line.refused(4));
     }
     let record = Record { priority, addresses, filed, originator, region, serial, aerodrome, rows, items, plain };
+    // Lines that were read end with their last group: the eight digits of the time, the four of the serial.
     if heading_serial != serial {
-        Err(10)
+        Err(Refused::at(10, fourth.last(4)))
     } else if heading_aerodrome != aerodrome {
-        Err(11)
+        Err(Refused::at(11, fifth.place))
     } else if time != record.latest() {
-        Err(12)
+        Err(Refused::at(12, third.last(8)))
     } else {
         Ok(record)
     }
@@ -102,7 +147,7 @@ pub fn write(record: &Record) -> Vec<u8> {
 /// What the lister prints for a message.
 pub fn listing(message: &[u8]) -> Vec<u8> {
     match read(message) {
-        Err(number) => format!("REFUSED {number}\n").into_bytes(),
+        Err(Refused { number, .. }) => format!("REFUSED {number}\n").into_bytes(),
         Ok(record) => {
             let disagreeing: u32 = record.rows.iter().map(|row| u32::from(agreement(row).1)).sum();
             let head = format!("ACCEPTED {} {} {disagreeing}\n", record.rows.len(), record.items.len());
@@ -155,41 +200,44 @@ fn read_serial(group: &[u8]) -> Option<u32> {
 }
 
 /// Everything after line 5, up to the line that closes the notice.
-fn body<'m>(lines: &mut impl Iterator<Item = &'m [u8]>) -> Result<Body, u8> {
+fn body(lines: &mut Lines) -> Result<Body, Refused> {
     let mut body = Body { rows: Vec::new(), items: Vec::new(), plain: Vec::new() };
     loop {
-        let line = lines.next().ok_or(4)?;
-        if line.is_empty() {
+        let line = lines.next(4)?;
+        if line.text.is_empty() {
+            // It stands where a row has to, while there is none.
+            if body.rows.is_empty() {
+                return Err(line.refused(4));
+            }
             break;
         }
         if body.rows.len() == MOST_ROWS {
-            return Err(6);
+            return Err(line.refused(6));
         }
-        let (text, closing) = closing(line);
-        let row = Row::read(text).ok_or(5)?;
+        let (text, closing) = closing(line.text);
+        let row = Row::read(text).map_err(|refused| refused.in_line_at(line.place))?;
         if body.rows.iter().any(|other| other.runway == row.runway) {
-            return Err(7);
+            return Err(Refused::at(7, runway_place(text)).in_line_at(line.place));
         }
         body.rows.push(row);
         if closing {
             return Ok(body);
         }
     }
-    if body.rows.is_empty() {
-        return Err(4);
-    }
-    let awareness = lines.next().ok_or(4)?;
-    if !awareness.is_empty() {
-        let (text, closing) = closing(awareness);
-        body.items = items::read(text).ok_or(8)?;
+    let awareness = lines.next(4)?;
+    if !awareness.text.is_empty() {
+        let (text, closing) = closing(awareness.text);
+        body.items = items::read(text).ok_or(awareness.refused(8))?;
         if closing {
             return Ok(body);
         }
     }
-    // Plain language that lacks its `)` is 4 whatever its bytes, unlike a row or an awareness line.
-    let text = lines.next().and_then(|line| line.strip_suffix(b")")).ok_or(4)?;
+    // Plain language that lacks its `)` is 4 whatever its bytes, unlike a row or an awareness line; the `)` is what is
+    // missing, even where lines follow.
+    let line = lines.next(4)?;
+    let text = line.text.strip_suffix(b")").ok_or(lines.missing(4))?;
     if !items::is_plain_language(text) {
-        return Err(9);
+        return Err(line.refused(9));
     }
     body.plain = text.to_vec();
     Ok(body)
@@ -206,7 +254,7 @@ fn closing(line: &[u8]) -> (&[u8], bool) {
 #[cfg(test)]
 mod tests {
     use super::*;
-    use crate::edges::{self, EXAMPLE};
+    use crate::edges::{self, Example, EXAMPLE};
 
     #[test]
     fn the_example_of_document_01() {
@@ -225,17 +273,24 @@ mod tests {
     }
 
     #[test]
+    fn the_lister_prints_no_place() {
+        let refused = EXAMPLE.replace("07L 3/5/5", "07L 3/5/9");
+        assert_eq!(read(refused.as_bytes()), Err(Refused::at(25, 92)));
+        assert_eq!(listing(refused.as_bytes()), b"REFUSED 25\n");
+    }
+
+    #[test]
     fn the_edges_and_the_decisions() {
-        for (message, number) in edges::by_hand() {
-            let told = read(&message).map_or_else(|number| number, |_| 0);
-            assert_eq!(told, number, "{}", message.escape_ascii());
+        for Example { text, number, place } in edges::by_hand() {
+            let told = read(&text).err().unwrap_or(Refused::at(0, 0));
+            assert_eq!(told, Refused::at(number, place), "{}", text.escape_ascii());
         }
     }
 
     #[test]
     fn a_written_record_reads_back() {
-        for (message, _) in edges::by_hand() {
-            if let Ok(record) = read(&message) {
+        for Example { text, .. } in edges::by_hand() {
+            if let Ok(record) = read(&text) {
                 assert_eq!(read(&write(&record)), Ok(record));
             }
         }

@@ -1,7 +1,11 @@
 //! Counts by refusal number, and the first differences with their bytes.
 
 const SHOWN: usize = 10;
-const NUMBERS: usize = 24;
+const NUMBERS: usize = 29;
+
+/// What a message can be answered, and what a row's text can.
+pub const OF_MESSAGES: [u8; 18] = [0, 1, 2, 3, 4, 5, 6, 7, 8, 9, 10, 11, 12, 24, 25, 26, 27, 28];
+pub const OF_ROWS: [u8; 7] = [0, 5, 24, 25, 26, 27, 28];
 
 pub struct Report {
     counts: [usize; NUMBERS],
@@ -21,8 +25,14 @@ impl Report {
 
     /// One line of what was counted since the last such line.
     pub fn print_counts(&mut self, what: &str) {
+        self.print_counts_of(what, &[]);
+    }
+
+    /// As `print_counts`, with some numbers that show even where they were never met.
+    pub fn print_counts_of(&mut self, what: &str, shown: &[u8]) {
         let counted = std::mem::replace(&mut self.counts, [0; NUMBERS]);
-        let numbers = counted.iter().enumerate().filter(|(_, &count)| count > 0);
+        let is_shown = |number: usize| shown.iter().any(|&other| usize::from(other) == number);
+        let numbers = counted.iter().enumerate().filter(|&(number, &count)| count > 0 || is_shown(number));
         let text: Vec<String> = numbers.map(|(number, count)| format!("{number}: {count}")).collect();
         println!("{what} by number: {}", text.join(", "));
     }

@@ -1,7 +1,9 @@
 //! Observation times, runways and runway rows.
 //!
 //! A row is cut at its slashes first: five pieces are a short row, nine a full one, and a space beside a slash shows as a
-//! piece that begins or ends with one.
+//! piece that begins or ends with one. Where a text that is no row goes wrong is found in `places.rs`.
+use crate::places;
+use crate::refused::Refused;
 use crate::text::{digits, groups, split};
 
 pub const DESCRIPTIONS: [&str; 15] = [
@@ -137,7 +139,13 @@ impl Row {
                 || self.thirds.iter().all(|third| third.description == DRY))
     }
 
-    pub fn read(text: &[u8]) -> Option<Row> {
+    /// The row, or the number and place of its leftmost fault.
+    pub fn read(text: &[u8]) -> Result<Row, Refused> {
+        Row::cut(text).ok_or_else(|| places::fault(text).expect("a text without a fault is a row"))
+    }
+
+    /// The row that a text is. This alone decides which texts are rows.
+    pub fn cut(text: &[u8]) -> Option<Row> {
         let pieces = text.split(|&byte| byte == b'/').map(groups).collect::<Option<Vec<_>>>()?;
         let pieces: Vec<&[&[u8]]> = pieces.iter().map(Vec::as_slice).collect();
         let nr: &[u8] = b"NR";
@@ -209,11 +217,11 @@ impl Row {
     }
 }
 
-fn read_code(group: &[u8]) -> Option<u16> {
+pub fn read_code(group: &[u8]) -> Option<u16> {
     digits(group, 1).filter(|&code| code <= 6).map(|code| code as u16)
 }
 
-fn read_coverage(group: &[u8]) -> Option<u16> {
+pub fn read_coverage(group: &[u8]) -> Option<u16> {
     match group {
         b"NR" => Some(NR),
         b"25" => Some(25),
@@ -224,7 +232,7 @@ fn read_coverage(group: &[u8]) -> Option<u16> {
     }
 }
 
-fn read_depth(group: &[u8]) -> Option<u16> {
+pub fn read_depth(group: &[u8]) -> Option<u16> {
     let depth = match group.len() {
         _ if group == b"NR" => return Some(NR),
         2 => digits(group, 2).filter(|&depth| depth >= 3),
@@ -242,7 +250,7 @@ fn read_description(words: &[&[u8]]) -> Option<u16> {
     u16::try_from(place + 1).ok()
 }
 
-fn read_width(group: &[u8]) -> Option<u8> {
+pub fn read_width(group: &[u8]) -> Option<u8> {
     digits(group, 2).filter(|&width| width > 0).map(|width| width as u8)
 }
 
@@ -267,8 +275,8 @@ mod tests {
     use super::*;
 
     fn canonical(groups: &str) -> Option<String> {
-        Row::read(format!("01120640 07R {groups}").as_bytes())
-            .map(|row| row.text()["01120640 07R ".len()..].to_string())
+        let row = Row::read(format!("01120640 07R {groups}").as_bytes()).ok();
+        row.map(|row| row.text()["01120640 07R ".len()..].to_string())
     }
 
     #[test]

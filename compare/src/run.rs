@@ -5,9 +5,10 @@ mod surface;
 
 use std::fmt::Debug;
 
+use crate::edges;
 use crate::generate::Rng;
 use crate::library::Written;
-use crate::report::Report;
+use crate::report::{Report, OF_MESSAGES, OF_ROWS};
 
 /// What a lent byte is before a call, so that a touched one shows.
 const UNTOUCHED: u8 = 0xa5;
@@ -94,8 +95,12 @@ fn filled(text: &[u8], room: usize) -> Vec<u8> {
 pub fn run(count: usize, seed: u64) -> bool {
     let mut run = Run { rng: Rng::new(seed), report: Report::new() };
     let tenth = count / 10;
+    edges::by_hand().iter().for_each(|example| run.message_by_hand(example));
+    run.report.print_counts_of("messages by hand", &OF_MESSAGES);
+    edges::rows_by_hand().iter().for_each(|example| run.row_by_hand(example));
+    run.report.print_counts_of("rows by hand", &OF_ROWS);
     (0..count).for_each(|_| run.message());
-    run.report.print_counts("messages");
+    run.report.print_counts_of("messages", &OF_MESSAGES);
     let equal = (0..tenth).filter(|_| run.pair()).count();
     println!("pairs that tell the same: {equal}");
     (0..tenth).for_each(|_| run.desk_input());
@@ -108,7 +113,7 @@ pub fn run(count: usize, seed: u64) -> bool {
     (0..count).for_each(|_| run.row());
     run.report.print_counts("rows as numbers");
     (0..count).for_each(|_| run.row_line());
-    run.report.print_counts("rows as text");
+    run.report.print_counts_of("rows as text", &OF_ROWS);
     (0..count).for_each(|_| run.damaged_record());
     run.report.print_counts("damaged records");
     println!(

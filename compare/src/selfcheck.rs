@@ -1,13 +1,17 @@
 //! The second reader against itself, and against the models in Python of rows and of the desk.
+mod places;
+
 use std::io;
 
 use crate::assess::{agreement, assess};
 use crate::desk::{self, desk, live, notice};
+use crate::edges;
 use crate::generate::{self, Rng, Sample};
 use crate::isolation;
 use crate::models;
 use crate::reader::{read, same, write, Record, LONGEST_MESSAGE};
-use crate::report::Report;
+use crate::refused::Refused;
+use crate::report::{Report, OF_MESSAGES, OF_ROWS};
 use crate::row::{Row, Runway, Third};
 use crate::test_run::row;
 use crate::text::lines;
@@ -15,7 +19,7 @@ use crate::text::lines;
 fn message(rng: &mut Rng, report: &mut Report) {
     let Sample { message, record, number } = generate::message(rng);
     let told = read(&message);
-    let refusal = told.as_ref().map_or_else(|&number| number, |_| 0);
+    let refusal = told.as_ref().map_or_else(|refused| refused.number, |_| 0);
     report.count(refusal);
     if number.map_or(false, |number| number != refusal) {
         report.differ("number", &message, &format!("{number:?}"), &refusal.to_string());
@@ -36,7 +40,7 @@ fn message(rng: &mut Rng, report: &mut Report) {
         Err(_) if same(&message, &message) => {
             report.differ("a refused message", &message, "the same as none", "the same as itself");
         }
-        Err(_) => {}
+        Err(refused) => places::message(&message, refused, report),
     }
 }
 
@@ -61,7 +65,7 @@ fn numbers(rng: &mut Rng, report: &mut Report) {
     report.count(refusal);
     let expected = (refusal == 0).then_some(&row);
     for text in [row.text(), row.full_text()] {
-        let told = Row::read(text.as_bytes());
+        let told = Row::read(text.as_bytes()).ok();
         if told.as_ref() != expected {
             report.differ("row", text.as_bytes(), &format!("{expected:?}"), &format!("{told:?}"));
         }
@@ -126,9 +130,11 @@ fn count_answers(printed: &[u8], report: &mut Report) {
     answers.filter_map(|line| std::str::from_utf8(line).ok()?.parse().ok()).for_each(|answer| report.count(answer));
 }
 
-/// Rows.py's own rows, and generated ones.
+/// Rows.py's own rows, those by hand, and generated ones.
 fn row_model(rng: &mut Rng, count: usize, report: &mut Report) -> io::Result<()> {
     row_lines("its own", &models::lines()?, report)?;
+    let by_hand: Vec<Vec<u8>> = edges::rows_by_hand().into_iter().map(|example| example.text).collect();
+    row_lines("by hand", &by_hand.join(&b'\n'), report)?;
     let mut input = Vec::new();
     for _ in 0..count {
         input.extend(generate::any_row_line(rng));
@@ -144,16 +150,22 @@ fn row_lines(whose: &str, input: &[u8], report: &mut Report) -> io::Result<()> {
     if input.len() != expected.len() {
         report.differ("answers of rows.py", b"all rows", &expected.len().to_string(), &input.len().to_string());
     }
-    let mut refused = 0;
     for (&text, &expected) in input.iter().zip(&expected) {
-        let told = row(text);
-        let told = told.strip_suffix(b"\n").unwrap_or(&told);
-        refused += usize::from(told == b"5");
+        places::row(text, report);
+        let refused = Row::read(text).err();
+        report.count(refused.map_or(0, |refused| refused.number));
+        // The model tells the place too, but for a line that the desk does not look at.
+        let told = match refused {
+            Some(Refused { number, place }) if text.len() <= LONGEST_MESSAGE => {
+                format!("{number} {place}").into_bytes()
+            }
+            _ => row(text).strip_suffix(b"\n").unwrap_or_default().to_vec(),
+        };
         if told != expected {
             report.differ("row", text, &expected.escape_ascii().to_string(), &told.escape_ascii().to_string());
         }
     }
-    println!("rows.py: {} rows, {whose}, {refused} of them refused", input.len());
+    report.print_counts_of(&format!("rows.py: {} rows, {whose},", input.len()), &OF_ROWS);
     Ok(())
 }
 
@@ -178,8 +190,10 @@ fn desk_model(rng: &mut Rng, count: usize, report: &mut Report) -> io::Result<()
 pub fn run(count: usize, seed: u64) -> bool {
     let mut rng = Rng::new(seed);
     let mut report = Report::new();
+    places::by_hand(&mut report);
+    report.print_counts_of("messages and rows by hand", &OF_MESSAGES);
     (0..count).for_each(|_| message(&mut rng, &mut report));
-    report.print_counts("messages");
+    report.print_counts_of("messages", &OF_MESSAGES);
     let tenth = count / 10;
     let mut equal = 0;
     for _ in 0..tenth {

@@ -67,11 +67,13 @@ fn message(number: usize, message: &[u8], before: &[u8]) -> Vec<u8> {
     told
 }
 
-/// 5, or 0, the count of disagreeing thirds and the canonical row. A text that the desk would not look at is no row.
+/// The refusal number, or 0, the count of disagreeing thirds and the canonical row. A text that the desk would not look at
+/// is refused by 5.
 pub fn row(text: &[u8]) -> Vec<u8> {
     let told = match Row::read(text) {
-        Some(row) if text.len() <= LONGEST_MESSAGE => format!("0 {} {}\n", agreement(&row).1, row.text()),
-        _ => "5\n".to_string(),
+        _ if text.len() > LONGEST_MESSAGE => "5\n".to_string(),
+        Ok(row) => format!("0 {} {}\n", agreement(&row).1, row.text()),
+        Err(refused) => format!("{}\n", refused.number),
     };
     told.into_bytes()
 }
@@ -110,6 +112,6 @@ mod tests {
                 .concat();
         assert_eq!(answers(&file.concat()), Some([observations::output(), expected].concat()));
         assert_eq!(row(b"01120640  07 6/6/6 DRY/DRY/DRY"), b"0 0 01120640 07 6/6/6 DRY/DRY/DRY\n");
-        assert_eq!(row(b"01120640 07"), b"5\n");
+        assert_eq!(row(b"01120640 07"), b"25\n");
     }
 }

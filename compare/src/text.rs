@@ -1,15 +1,31 @@
 //! Cutting a message apart before anything is judged: into lines, and a line into groups.
 
+/// A line without its end, and the place of its first byte in the text it is cut from.
+#[derive(Clone, Copy, Debug, PartialEq, Eq)]
+pub struct Line<'t> {
+    pub place: usize,
+    pub text: &'t [u8],
+}
+
 /// The lines of a text: up to an LF, less one CR before it. What follows the last LF is a line only if something stands
 /// there, and a CR at its end is text, since only CR LF is another end.
-pub fn lines(text: &[u8]) -> Vec<&[u8]> {
-    let mut lines: Vec<&[u8]> = text.split(|&byte| byte == b'\n').collect();
+pub fn placed_lines(text: &[u8]) -> Vec<Line<'_>> {
+    let mut place = 0;
+    let mut lines = Vec::new();
+    for line in text.split(|&byte| byte == b'\n') {
+        lines.push(Line { place, text: line });
+        place += line.len() + 1;
+    }
     let unended = lines.pop();
     for line in &mut lines {
-        *line = line.strip_suffix(b"\r").unwrap_or(line);
+        line.text = line.text.strip_suffix(b"\r").unwrap_or(line.text);
     }
-    lines.extend(unended.filter(|line| !line.is_empty()));
+    lines.extend(unended.filter(|line| !line.text.is_empty()));
     lines
+}
+
+pub fn lines(text: &[u8]) -> Vec<&[u8]> {
+    placed_lines(text).into_iter().map(|line| line.text).collect()
 }
 
 /// The groups of a text, parted by one or more spaces; none where the text is empty or a space stands at its start or end.
@@ -60,6 +76,13 @@ mod tests {
         assert_eq!(lines(b"A\r\r\n"), [&b"A\r"[..]]);
         assert_eq!(lines(b"\r\n\n"), [&b""[..], b""]);
         assert!(lines(b"").is_empty());
+    }
+
+    #[test]
+    fn a_line_stands_behind_the_end_before_it() {
+        let places = |text: &'static [u8]| placed_lines(text).iter().map(|line| line.place).collect::<Vec<_>>();
+        assert_eq!(places(b"A\r\nB\n\nC"), [0, 3, 5, 6]);
+        assert_eq!(places(b"\n\r\n"), [0, 1]);
     }
 
     #[test]

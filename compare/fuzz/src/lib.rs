@@ -1,9 +1,11 @@
 //! One input of the fuzzer, put to the proved library and to the second reader; a difference aborts.
 //!
-//! The first byte says what the rest is: `D` a desk input, `B` a desk input and the model of its board's notice, `S` two
-//! messages, any other a message. A zero byte parts two texts.
+//! The first byte says what the rest is: `D` a desk input, `B` a desk input and the model of its board's notice, `R` a row,
+//! `S` two messages, any other a message. A zero byte parts two texts.
+use compare::refused::Refused;
+use compare::row::Row;
 use compare::{desk, reader};
-use phengaryl::Reading;
+use phengaryl::{Reading, RowRead};
 
 #[path = "../../../include/phengaryl.rs"]
 mod phengaryl;
@@ -27,12 +29,25 @@ fn message(input: &[u8]) {
     let reading = phengaryl::read(input);
     match reader::read(input) {
         Ok(record) => {
-            assert_eq!(reading.refusal, 0);
+            assert_eq!((reading.refusal, reading.place), (0, 0));
             assert_eq!(reading.record.text(), Ok(reader::write(&record)));
         }
-        Err(refusal) => assert_eq!(reading, Reading { refusal, ..Default::default() }),
+        Err(Refused { number: refusal, place }) => {
+            assert_eq!(reading, Reading { refusal, place, ..Default::default() });
+        }
     }
     prints(phengaryl::list, input, &reader::listing(input));
+}
+
+fn row(input: &[u8]) {
+    let read = phengaryl::read_row(input);
+    match Row::read(input) {
+        Ok(row) => {
+            assert_eq!((read.refusal, read.place), (0, 0));
+            assert_eq!(read.row.text(), Some(row.text().into_bytes()));
+        }
+        Err(Refused { number: refusal, place }) => assert_eq!(read, RowRead { refusal, place, ..Default::default() }),
+    }
 }
 
 fn pair(input: &[u8]) {
@@ -66,6 +81,7 @@ pub unsafe extern "C" fn LLVMFuzzerTestOneInput(data: *const u8, size: usize) ->
     match input.split_first() {
         Some((b'D', rest)) => prints(phengaryl::desk, rest, &desk::desk(rest)),
         Some((b'B', rest)) => board_notice(rest),
+        Some((b'R', rest)) => row(rest),
         Some((b'S', rest)) => pair(rest),
         Some((_, rest)) => message(rest),
         None => (),

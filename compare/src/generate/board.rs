@@ -7,7 +7,7 @@ use crate::row::Runway;
 /// Senders that are no desk, among them what would be one if it were cut down to fewer bits.
 const NO_DESKS: [u32; 14] = [0, 3, 9, 49, 50, 255, 256, 257, 258, 65_537, 65_538, 0x0100_0001, 0x8000_0002, u32::MAX];
 
-/// A desk input, and the message that a notice of its board is modelled on. Most of them give one; 17, 21 and 13 are
+/// A desk input, and the message that a notice of its board is modelled on. About half give one; 17, 21 and 13 are
 /// common, and so are two of them at once, in which their order shows.
 pub fn board_notice(rng: &mut Rng) -> (Vec<u8>, Vec<u8>) {
     let desk = if rng.chance(50) {
@@ -94,7 +94,7 @@ mod tests {
             let counts = if read(&model).is_ok() { &mut alone } else { &mut both };
             counts[number] += 1;
         }
-        assert!(share(alone[0]) >= 50, "{alone:?}");
+        assert!(share(alone[0]) >= 45, "{alone:?}");
         assert!(share(alone[17]) >= 5 && share(alone[21]) >= 5, "{alone:?}");
         assert!(share(both[13]) >= 5 && share(both[17]) >= 1 && share(both[21]) >= 1, "{both:?}");
     }

@@ -1,5 +1,6 @@
 //! Messages that something was done to.
 use super::records::{item, item_count, items, plain, record, record_of, row_count, time, word};
+use super::rows::{damaged_row, DamagedRow};
 use super::typing::Draft;
 use super::{Rng, Sample};
 use crate::items::{Item, MOST_ITEMS, MOST_PLAIN};
@@ -18,6 +19,7 @@ enum Damage {
     OpeningByte,
     HeadGroup,
     RowGroup,
+    RowGroups,
     LeftOut,
     ItemGroup,
     Lines,
@@ -38,7 +40,7 @@ enum Damage {
     Cut,
 }
 
-const DAMAGES: [Damage; 30] = [
+const DAMAGES: [Damage; 34] = [
     Damage::AnyBytes,
     Damage::HeadBound,
     Damage::RowBound,
@@ -50,6 +52,10 @@ const DAMAGES: [Damage; 30] = [
     Damage::OpeningByte,
     Damage::HeadGroup,
     Damage::RowGroup,
+    Damage::RowGroups,
+    Damage::RowGroups,
+    Damage::RowGroups,
+    Damage::RowGroups,
     Damage::LeftOut,
     Damage::ItemGroup,
     Damage::Lines,
@@ -76,7 +82,7 @@ pub fn damaged(rng: &mut Rng) -> Sample {
     let damage = rng.pick(&DAMAGES);
     let record = damaged_record(rng, damage);
     let mut draft = Draft::typed(rng, &record);
-    damage_lines(rng, damage, &record, &mut draft);
+    let of_row = damage_lines(rng, damage, &record, &mut draft);
     let mut message = if damage == Damage::TooLong {
         let length = rng.pick(&[4097, 4097, 4098, 5000, 9000]);
         draft.stretched(rng, length)
@@ -99,7 +105,7 @@ pub fn damaged(rng: &mut Rng) -> Sample {
         Damage::Items if record.items.len() > MOST_ITEMS => Some(8),
         Damage::Serial => Some(10),
         Damage::Aerodrome => Some(11),
-        _ => None,
+        _ => of_row,
     };
     Sample { message, record: None, number }
 }
@@ -214,12 +220,13 @@ fn with_item_bound(rng: &mut Rng, item: &mut Item) {
     }
 }
 
-fn damage_lines(rng: &mut Rng, damage: Damage, record: &Record, draft: &mut Draft) {
+/// Damages the lines of a message; the number of a damaged row, if that leaves no doubt.
+fn damage_lines(rng: &mut Rng, damage: Damage, record: &Record, draft: &mut Draft) -> Option<u8> {
     let row_line = 5 + rng.below(draft.rows);
     let awareness = draft.awareness();
     let loose = draft.loose();
     let lines = &mut draft.lines;
-    let other_serial = format!("(SNOWTAM {:04}", record.serial % 9999 + 1).into_bytes();
+    let other_serial = format!("{:04}", record.serial % 9999 + 1);
     match damage {
         Damage::AddressingByte => {
             let line = rng.below(2);
@@ -235,6 +242,13 @@ fn damage_lines(rng: &mut Rng, damage: Damage, record: &Record, draft: &mut Draf
             *line = with_neighbour(rng, line);
         }
         Damage::RowGroup => lines[row_line] = with_neighbour(rng, &lines[row_line]),
+        Damage::RowGroups => {
+            let closed = lines[row_line].ends_with(b")");
+            let DamagedRow { text, number } = damaged_row(rng, &record.rows[row_line - 5]);
+            lines[row_line] = text;
+            lines[row_line].extend(closed.then_some(b')'));
+            return number;
+        }
         Damage::LeftOut => {
             let closed = lines[row_line].ends_with(b")");
             lines[row_line] = with_group_left_out(rng, &record.rows[row_line - 5]);
@@ -246,16 +260,14 @@ fn damage_lines(rng: &mut Rng, damage: Damage, record: &Record, draft: &mut Draf
             }
         }
         Damage::Lines => with_line_damage(rng, lines),
-        Damage::Serial => lines[3] = other_serial,
+        Damage::Serial => with_other_end(&mut lines[3], &other_serial),
         Damage::Aerodrome => {
             let byte = &mut lines[4][rng.below(4)];
             *byte = if *byte == b'Z' { b'Y' } else { b'Z' };
         }
         Damage::Time => {
             let other = [time(rng), record.rows[0].time, record.latest() ^ 1][rng.below(3)];
-            let groups = lines[2].len() - 8;
-            lines[2].truncate(groups);
-            lines[2].extend(format!("{other:08}").into_bytes());
+            with_other_end(&mut lines[2], &format!("{other:08}"));
         }
         Damage::Close => with_odd_close(rng, lines),
         Damage::Spacing => {
@@ -274,7 +286,7 @@ fn damage_lines(rng: &mut Rng, damage: Damage, record: &Record, draft: &mut Draf
         }
         Damage::SeveralAtOnce => {
             // So that the order of the numbers shows.
-            lines[3] = other_serial;
+            with_other_end(&mut lines[3], &other_serial);
             lines[4] = b"QQQQ".to_vec();
             if rng.chance(50) {
                 lines.push(Vec::new());
@@ -289,6 +301,13 @@ fn damage_lines(rng: &mut Rng, damage: Damage, record: &Record, draft: &mut Draf
         }
         _ => {}
     }
+    None
+}
+
+/// As many bytes at a line's end for others; the spaces before them stay.
+fn with_other_end(line: &mut Vec<u8>, end: &str) {
+    line.truncate(line.len() - end.len());
+    line.extend_from_slice(end.as_bytes());
 }
 
 const BOUND_TIMES: [u32; 14] = [

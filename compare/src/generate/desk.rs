@@ -1,6 +1,7 @@
 //! Inputs of the desk program.
 use super::damage::{with_byte_damage, with_neighbour, with_row_bound};
 use super::records::{row, runway, word};
+use super::rows::damaged_row;
 use super::typing::{loosened, Pace};
 use super::Rng;
 use crate::desk::{Owned, Report, MOST_RUNWAYS};
@@ -103,6 +104,7 @@ fn row_line(rng: &mut Rng, runway: Runway) -> Vec<u8> {
         18..=20 => line.clear(),
         21..=22 => line.push(b')'),
         23..=24 => line = rng.pick(&[&b")"[..], b" ", b"\r", b"XQAA 07", b"\t"]).to_vec(),
+        25..=34 => line = damaged_row(rng, &row).text,
         _ => {}
     }
     line
@@ -121,9 +123,13 @@ fn long_row_line(rng: &mut Rng, runway: Runway) -> Vec<u8> {
     line
 }
 
-/// A line as above, of any runway.
+/// A line as above, of any runway, more often with something done to its groups.
 pub fn any_row_line(rng: &mut Rng) -> Vec<u8> {
     let runway = runway(rng, REPORTED);
+    if rng.chance(40) {
+        let row = row(rng, runway);
+        return damaged_row(rng, &row).text;
+    }
     long_row_line(rng, runway)
 }
 
@@ -237,7 +243,8 @@ pub fn two_runs(rng: &mut Rng) -> TwoRuns {
     let (aerodrome, mut list) = opening(rng);
     list.truncate(MOST_RUNWAYS);
     let mut own = report_lines(rng, &list);
-    own.retain(|line| is_sent_by(line, desk));
+    // A CR at a line's end would be text in one of them and none in the other, by the end that comes behind it.
+    own.retain(|line| is_sent_by(line, desk) && !line.ends_with(b"\r"));
     let inputs = [(); 2].map(|()| {
         let mut lines = report_lines(rng, &list);
         lines.retain(|line| !is_sent_by(line, desk));
@@ -265,7 +272,7 @@ mod tests {
     #[test]
     fn each_answer_is_common() {
         let mut rng = Rng::new(1);
-        let mut counts = [0; 24];
+        let mut counts = [0; 29];
         let mut all = 0;
         for _ in 0..1000 {
             let input = desk_input(&mut rng);
@@ -278,6 +285,9 @@ mod tests {
         }
         for answer in [0, 5, 18, 20, 22, 23] {
             assert!(1000 * counts[answer] / all >= 50, "{counts:?}");
+        }
+        for answer in [24, 25, 26, 27, 28] {
+            assert!(1000 * counts[answer] / all >= 10, "{counts:?}");
         }
     }
 

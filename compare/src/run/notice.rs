@@ -1,32 +1,45 @@
 //! Messages and records.
 use super::{Run, Shown};
+use crate::edges::Example;
 use crate::generate;
 use crate::judge;
 use crate::library::{self, Reading};
 use crate::reader;
 
 impl Run {
-    /// A message read, written anew and listed, and its record written.
     pub fn message(&mut self) {
         let message = generate::message(&mut self.rng).message;
-        let input = Shown(&message);
-        let read = reader::read(&message);
+        self.told(&message);
+    }
+
+    /// A message by hand is answered as it stands there, whatever the second reader tells of it.
+    pub fn message_by_hand(&mut self, example: &Example) {
+        let Reading { refusal, place, .. } = library::read(&example.text);
+        let expected = (example.number, example.place);
+        self.agree("a message by hand", Shown(&example.text), expected, (refusal, place));
+        self.told(&example.text);
+    }
+
+    /// A message read, written anew and listed, and its record written.
+    fn told(&mut self, message: &[u8]) {
+        let input = Shown(message);
+        let read = reader::read(message);
         let expected = match &read {
-            Ok(record) => Reading { refusal: 0, record: record.into() },
-            Err(refusal) => Reading { refusal: *refusal, ..Default::default() },
+            Ok(record) => Reading { refusal: 0, place: 0, record: record.into() },
+            Err(refused) => Reading { refusal: refused.number, place: refused.place, ..Default::default() },
         };
         self.report.count(expected.refusal);
-        self.agree("reading", &input, &expected, &library::read(&message));
+        self.agree("reading", &input, &expected, &library::read(message));
 
         let text = read.map(|record| reader::write(&record));
-        let text = text.as_deref().map_err(|&refusal| refusal);
-        self.writes("rewriting", &input, text, |out| library::rewrite(&message, out));
+        let text = text.as_deref().map_err(|refused| refused.number);
+        self.writes("rewriting", &input, text, |out| library::rewrite(message, out));
         if text.is_ok() {
             self.writes("writing", &input, text, |out| library::write(&expected.record, out));
         }
 
-        let listing = reader::listing(&message);
-        self.prints("listing", &message, &listing, |out| library::list(&message, out));
+        let listing = reader::listing(message);
+        self.prints("listing", message, &listing, |out| library::list(message, out));
     }
 
     /// Whether two messages tell the same.

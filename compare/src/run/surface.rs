@@ -1,6 +1,8 @@
 //! Observations, and rows as numbers and as text.
 use super::{filled, Run, Shown, UNTOUCHED};
 use crate::assess;
+use crate::desk;
+use crate::edges::{self, Example};
 use crate::generate;
 use crate::library::{self, Agreement, Assessment, RowRead};
 use crate::row::{Row, Third};
@@ -38,11 +40,25 @@ impl Run {
     /// A line that holds a row, or something that was one. How long it is matters to the desk alone.
     pub fn row_line(&mut self) {
         let line = generate::any_row_line(&mut self.rng);
-        let expected = match Row::read(&line) {
-            Some(row) => RowRead { refusal: 0, row: (&row).into() },
-            None => RowRead { refusal: 5, ..Default::default() },
+        self.read_row(&line);
+    }
+
+    /// A row by hand is answered as it stands there, whatever the second reader tells of it.
+    pub fn row_by_hand(&mut self, example: &Example) {
+        let RowRead { refusal, place, .. } = library::read_row(&example.text);
+        let expected = (example.number, example.place);
+        self.agree("a row by hand", Shown(&example.text), expected, (refusal, place));
+        self.read_row(&example.text);
+        let input = edges::at_desk(example);
+        self.prints("desk", &input, &desk::desk(&input), |out| library::desk(&input, out));
+    }
+
+    fn read_row(&mut self, line: &[u8]) {
+        let expected = match Row::read(line) {
+            Ok(row) => RowRead { refusal: 0, place: 0, row: (&row).into() },
+            Err(refused) => RowRead { refusal: refused.number, place: refused.place, ..Default::default() },
         };
         self.report.count(expected.refusal);
-        self.agree("reading a row", Shown(&line), expected, library::read_row(&line));
+        self.agree("reading a row", Shown(line), expected, library::read_row(line));
     }
 }

@@ -39,7 +39,7 @@ fn words(refusal: u8) -> &'static str {
         refusal::LINE_1_OR_2 => "line 1 or 2 (addresses, filing time and originator) is missing or wrong",
         refusal::LINE_3 => "line 3 (the heading) is missing or wrong",
         refusal::OUTLINE => "the outline of the message is wrong",
-        refusal::NO_ROW => "this is no valid runway row, or a report without a desk's digit",
+        refusal::NO_ROW => "the row's time is wrong or missing, or this is a report without a desk's digit",
         refusal::NINTH_ROW => "there are more than eight rows",
         refusal::RUNWAY_TWICE => "the same runway is reported twice",
         refusal::WRONG_ITEMS => "the awareness line is wrong",
@@ -55,6 +55,11 @@ fn words(refusal: u8) -> &'static str {
         refusal::NO_REPORT => "the board holds no report",
         refusal::OTHERS_RUNWAY => "the runway belongs to the other desk",
         refusal::NO_DESK => "there is no such desk",
+        refusal::WRONG_RUNWAY => "the row's runway is wrong or missing",
+        refusal::WRONG_CODES => "the row's codes are wrong or missing",
+        refusal::WRONG_COVERAGE_OR_DEPTH => "the row's coverage or depth is wrong or missing",
+        refusal::WRONG_DESCRIPTIONS => "the row's descriptions are wrong or missing",
+        refusal::WRONG_WIDTH => "the row's width or what follows it is wrong",
         _ => "no refusal that a terminal meets",
     }
 }
@@ -63,7 +68,7 @@ fn words(refusal: u8) -> &'static str {
 fn read_model(path: &str) -> Result<Record, Stop> {
     let mut message = Vec::new();
     File::open(path)?.take(LONGEST_TEXT as u64 + 1).read_to_end(&mut message)?;
-    Record::read(&message).map_err(|n| Stop::Refused("model", n))
+    Record::read(&message).map_err(|refused| Stop::Refused("model", refused.refusal))
 }
 
 /// A runway and the desk that owns it, such as 07/1 or 07L/2. What is none becomes zeros, which the library refuses.
@@ -117,7 +122,7 @@ fn report_line(board: &mut Board, line: &[u8]) -> Result<Row, u8> {
         [digit @ b'0'..=b'9', b' ', row @ ..] => (digit, row),
         _ => return Err(refusal::NO_ROW),
     };
-    let row = Row::read(row)?;
+    let row = Row::read(row).map_err(|refused| refused.refusal)?;
     board.report(u32::from(digit - b'0'), &row)?;
     Ok(row)
 }
