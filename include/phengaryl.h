@@ -1,6 +1,6 @@
 /*
  * Phengaryl: runway notices (SNOWTAM) read, written, compared, assessed and kept on a board that two desks share, exactly as document 01 and
- * request 1 of document 02 say.
+ * requests 1 and 2 of document 02 say.
  *
  * Every function here is proved to keep the promise that its comment gives in plain words; crates/phengaryl/src/lib.rt has it in full.
  * The functions keep nothing between calls, take no memory from the heap, print nothing and always return, so any thread may call them.
@@ -25,7 +25,7 @@ extern "C" {
 #endif
 
 /* The version of this interface. The first number grows with every change that a program has to be compiled anew for. */
-#define PHENGARYL_VERSION "2.0.0"
+#define PHENGARYL_VERSION "3.0.0"
 
 /* A longer message is refused (1), and the canonical text of an accepted one is never longer. */
 #define PHENGARYL_LONGEST_TEXT 4096
@@ -40,7 +40,7 @@ extern "C" {
 #define PHENGARYL_LONGEST_DESK(input_length) (3 * (size_t)(input_length) + 1186)
 
 /*
- * Refusal numbers, as document 01 and request 1 of document 02 have them. 0 means accepted, taken or written.
+ * Refusal numbers, as document 01 and requests 1 and 2 of document 02 have them. 0 means accepted, taken or written.
  */
 enum phengaryl_refusal {
     PHENGARYL_TAKEN = 0,
@@ -274,7 +274,7 @@ typedef struct phengaryl_details {
 /* ---- Messages and records */
 
 /*
- * Reads a message: its record, or the number of the first thing that is wrong with it, 1 to 12.
+ * Reads a message: its record, or the number of the first thing that is wrong with it, 1 to 12 or 24 to 28, and its place.
  */
 phengaryl_reading phengaryl_read(const uint8_t *message, size_t length);
 
@@ -285,7 +285,7 @@ phengaryl_reading phengaryl_read(const uint8_t *message, size_t length);
 phengaryl_written phengaryl_write(phengaryl_record record, uint8_t *out, size_t size);
 
 /*
- * Writes an accepted message anew in canonical form: 1 to 12 where the message is refused, then 14.
+ * Writes an accepted message anew in canonical form: the number of the reading where the message is refused, then 14.
  * Later bytes of `out` stay as they were. PHENGARYL_LONGEST_TEXT bytes always suffice.
  */
 phengaryl_written phengaryl_rewrite(const uint8_t *message, size_t length, uint8_t *out, size_t size);
@@ -316,7 +316,8 @@ phengaryl_assessment phengaryl_assess(phengaryl_observation observation);
 phengaryl_agreement phengaryl_disagreeing(phengaryl_row row);
 
 /*
- * Reads the text of a row, without its line end: the row, or 5. A text of any length is read; it is the desk that refuses a line over 4,096 bytes.
+ * Reads the text of a row, without its line end: the row, or 5 or 24 to 28 and the place of the
+ * group at fault. A text of any length is read; it is the desk that refuses a line over 4,096 bytes.
  */
 phengaryl_row_read phengaryl_read_row(const uint8_t *text, size_t length);
 

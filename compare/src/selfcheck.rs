@@ -13,7 +13,6 @@ use crate::reader::{read, same, write, Record, LONGEST_MESSAGE};
 use crate::refused::Refused;
 use crate::report::{Report, OF_MESSAGES, OF_ROWS};
 use crate::row::{Row, Runway, Third};
-use crate::test_run::row;
 use crate::text::lines;
 
 fn message(rng: &mut Rng, report: &mut Report) {
@@ -152,17 +151,16 @@ fn row_lines(whose: &str, input: &[u8], report: &mut Report) -> io::Result<()> {
     }
     for (&text, &expected) in input.iter().zip(&expected) {
         places::row(text, report);
-        let refused = Row::read(text).err();
-        report.count(refused.map_or(0, |refused| refused.number));
+        let read = Row::read(text);
+        report.count(read.as_ref().err().map_or(0, |refused| refused.number));
         // The model tells the place too, but for a line that the desk does not look at.
-        let told = match refused {
-            Some(Refused { number, place }) if text.len() <= LONGEST_MESSAGE => {
-                format!("{number} {place}").into_bytes()
-            }
-            _ => row(text).strip_suffix(b"\n").unwrap_or_default().to_vec(),
+        let told = match read {
+            _ if text.len() > LONGEST_MESSAGE => "5".to_string(),
+            Ok(row) => format!("0 {} {}", agreement(&row).1, row.text()),
+            Err(Refused { number, place }) => format!("{number} {place}"),
         };
-        if told != expected {
-            report.differ("row", text, &expected.escape_ascii().to_string(), &told.escape_ascii().to_string());
+        if told.as_bytes() != expected {
+            report.differ("row", text, &expected.escape_ascii().to_string(), &told);
         }
     }
     report.print_counts_of(&format!("rows.py: {} rows, {whose},", input.len()), &OF_ROWS);

@@ -61,19 +61,20 @@ fn message(number: usize, message: &[u8], before: &[u8]) -> Vec<u8> {
     let mut told = format!("#{number:04}\n").into_bytes();
     told.extend(listing(message));
     told.extend_from_slice(if same(before, message) { b"SAME\n" } else { b"DIFFERENT\n" });
-    if read(message).is_ok() {
-        told.extend_from_slice(b"14\n");
+    match read(message) {
+        Ok(_) => told.extend_from_slice(b"14\n"),
+        Err(refused) => told.extend(format!("AT {:04}\n", refused.place).into_bytes()),
     }
     told
 }
 
-/// The refusal number, or 0, the count of disagreeing thirds and the canonical row. A text that the desk would not look at
+/// The refusal number and its place; or 0, the count of disagreeing thirds and the canonical row. A text that the desk would not look at
 /// is refused by 5.
 pub fn row(text: &[u8]) -> Vec<u8> {
     let told = match Row::read(text) {
-        _ if text.len() > LONGEST_MESSAGE => "5\n".to_string(),
-        Ok(row) => format!("0 {} {}\n", agreement(&row).1, row.text()),
-        Err(refused) => format!("{}\n", refused.number),
+        _ if text.len() > LONGEST_MESSAGE => "05\n".to_string(),
+        Ok(row) => format!("00 {} {}\n", agreement(&row).1, row.text()),
+        Err(refused) => format!("{:02} {:04}\n", refused.number, refused.place),
     };
     told.into_bytes()
 }
@@ -107,11 +108,16 @@ mod tests {
     fn answering() {
         let listed = listing(EXAMPLE.as_bytes());
         let file = [framed(MESSAGE, EXAMPLE.as_bytes()), framed(MESSAGE, b""), framed(MESSAGE, EXAMPLE.as_bytes())];
-        let expected =
-            [b"#0001\n", &listed[..], b"SAME\n14\n#0002\nREFUSED 2\nDIFFERENT\n#0003\n", &listed, b"DIFFERENT\n14\n"]
-                .concat();
+        let expected = [
+            b"#0001\n",
+            &listed[..],
+            b"SAME\n14\n#0002\nREFUSED 2\nDIFFERENT\nAT 0000\n#0003\n",
+            &listed,
+            b"DIFFERENT\n14\n",
+        ]
+        .concat();
         assert_eq!(answers(&file.concat()), Some([observations::output(), expected].concat()));
-        assert_eq!(row(b"01120640  07 6/6/6 DRY/DRY/DRY"), b"0 0 01120640 07 6/6/6 DRY/DRY/DRY\n");
-        assert_eq!(row(b"01120640 07"), b"25\n");
+        assert_eq!(row(b"01120640  07 6/6/6 DRY/DRY/DRY"), b"00 0 01120640 07 6/6/6 DRY/DRY/DRY\n");
+        assert_eq!(row(b"01120640 07"), b"25 0011\n");
     }
 }

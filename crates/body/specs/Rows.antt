@@ -5,15 +5,17 @@ use mathlib.Core.Bool.{cond, Bool, true, false, not}
 use lib.Dec.{eqb, leb}
 use lib.ListN.{length, take, drop}
 use Rattle.text.specs.Choice.{_and_, all, isEmpty}
-use Rattle.text.specs.Lines.{closed, lineText}
+use Rattle.text.specs.Lines.{Cut, cut, closed, lineText, beyond}
+use Rattle.text.specs.Read.{skip, leftBy}
+use Rattle.text.specs.Numbers.{readDigits}
 use Rattle.text.specs.Arrays.{pad}
 use Rattle.runway.specs.Time.{later}
 use Rattle.row.specs.declared.Row.{Row}
 use Rattle.row.specs.Row.{validRow, blankRow, isBlankRow}
-use Rattle.rowtext.specs.Reading.{wholeRow}
+use Rattle.rowtext.specs.Reading.{findRow}
 use Rattle.body.specs.declared.Rows.{Rows}
-use Rattle.text.specs.Out.{finished, more, After, Out, refuse, taken, fit, atEnd}
-use Rattle.text.specs.Refusals.{outline, ninthRow, noRow, runwayTwice}
+use Rattle.text.specs.Out.{Out, refuse, taken, next, before, atEnd, After, finished, more}
+use Rattle.text.specs.Refusals.{outline, ninthRow, runwayTwice}
 
 -- "1 to 8 runway rows"
 abbrev pub mostRows : ℕ
@@ -69,16 +71,20 @@ pub record Block : Type 0 where
 abbrev pub block : List Row → After → Block
 block rs a = record { rows = rs; after = a }
 
+-- a row's runway group: what is left behind its time and a gap
+abbrev pub runwayOn : List ℕ → List ℕ
+runwayOn line = skip (leftBy (readDigits 8 line))
+
 -- up to n more rows behind those seen
-unfoldable pub readRows : ℕ → List Row → List (List ℕ) → Out Block
--- "a line or `)` missing"
-readRows n seen [] = refuse outline
+unfoldable pub readRows : ℕ → List Row → List Cut → Out Block
+-- "a line or `)` missing", at "the message's length"
+readRows n seen [] = refuse outline []
 -- "an empty line ends the rows (4 while there is none)"
-readRows n seen ([] ∷ ls) = cond (isEmpty seen) (refuse outline) (taken (block seen (more ls)))
--- "a ninth line that is not empty where a row may stand": 6 before the row's own rules
-readRows zero seen ((x ∷ l) ∷ ls) = refuse ninthRow
--- "any other line, `)` alone too, is read as a row", 5; "7 comes after the row's own rules"; `)` closes
-readRows (suc n) seen ((x ∷ l) ∷ ls) = fit noRow (wholeRow (lineText (x ∷ l))) (λ r.
-    cond (isAmong r seen) (refuse runwayTwice)
-    (cond (closed (x ∷ l)) (atEnd ls (block (seen ++ (r ∷ [])) finished))
-    (readRows n (seen ++ (r ∷ [])) ls)))
+readRows n seen (cut [] behind ∷ cs) = cond (isEmpty seen) (refuse outline behind) (taken (block seen (more cs)))
+-- "a ninth line that is not empty where a row may stand": 6 before the row's own rules, at "the line's first byte"
+readRows zero seen (cut (x ∷ l) behind ∷ cs) = refuse ninthRow ((x ∷ l) ++ behind)
+-- "any other line, `)` alone too, is read as a row", 5 and 24 to 28; "7 comes after the row's own rules", at its runway group; `)` closes
+readRows (suc n) seen (cut (x ∷ l) behind ∷ cs) = next (before (beyond (x ∷ l) behind) (findRow (lineText (x ∷ l)))) (λ r.
+    cond (isAmong r seen) (refuse runwayTwice (runwayOn (lineText (x ∷ l)) ++ beyond (x ∷ l) behind))
+    (cond (closed (x ∷ l)) (atEnd cs (block (seen ++ (r ∷ [])) finished))
+    (readRows n (seen ++ (r ∷ [])) cs)))

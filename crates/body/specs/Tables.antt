@@ -1,7 +1,8 @@
 -- "No runway twice": number and side together; the refusals of lines that are missing or too many; the answers, evaluated.
 use Prim.Native.Nat.{ℕ}
+use Prim.Native.String.{String}
 use mathlib.Core.Path.{_≡_, refl}
-use mathlib.Core.List.{List, [], _∷_, map}
+use mathlib.Core.List.{List, [], _∷_, _++_, map}
 use mathlib.Core.Bool.{Bool, true, false}
 use lib.Dec.{lit≤}
 use lib.ListN.{replicate}
@@ -10,12 +11,13 @@ use Rattle.text.specs.Piece.{bytes}
 use Rattle.text.specs.Read.{skip, readText}
 use Rattle.text.specs.Names.{readName}
 use Rattle.text.specs.Numbers.{readDigits}
-use Rattle.text.specs.Lines.{lines, linesSize, closed, allButLast}
-use Rattle.text.specs.Out.{refuse}
+use Rattle.text.specs.Lines.{cut, cuts, linesSize, closed, allButLast}
+use Rattle.text.specs.Out.{Out, refuse}
 use Rattle.row.specs.declared.Row.{Row}
 use Rattle.row.specs.Row.{blankRow, threeThat, validRow, isBare, isSix, isDry, isShort}
-use Rattle.rowtext.specs.Reading.{readFull, readShort, readWidth, readRow}
-use Rattle.body.specs.Rows.{mostRows, makeRows, sameRunway, isAmong, newRunways, latest, readRows}
+use Rattle.rowtext.specs.Reading.{parted, mayCover, mayLie, readWidth, timeGroup, runwayGroup, codeGroup, coverageGroup, depthGroup, descriptionGroup}
+use Rattle.rowtext.specs.Reading.{widthGroup, short, findRow}
+use Rattle.body.specs.Rows.{mostRows, makeRows, sameRunway, isAmong, newRunways, latest, Block, readRows}
 use Rattle.body.specs.Rows as Rows
 use Rattle.body.specs.Code.Held.{noRows, rowsAnswer, RowsHeld}
 use Rattle.body.specs.declared.Rows.{Rows}
@@ -64,33 +66,50 @@ rows = makeRows (dries ∷ [])
 
 -- the rows with a refusal, `)` or none, and a place
 abbrev told : ℕ → Rows → Bool → ℕ → RowsRead
-told n r c at = record { refusal = n; rows = r; closed = c; next = at }
+told n r c at = record { refusal = n; place = 0; rows = r; closed = c; next = at }
+
+-- the rows of a message, and where it is told to be wrong
+abbrev read : String → Out Block
+read s = readRows mostRows [] (cuts (bytes s))
 
 pub record Answers : Type 0 where
   -- "1 to 8 runway rows": 4 where none is left to read, 6 for a ninth
   most : mostRows ≡ 8
-  missing : map (λ n. readRows n (dries ∷ []) []) (0 ∷ 8 ∷ []) ≡ refuse 4 ∷ refuse 4 ∷ []
-  ninth : readRows 0 (dries ∷ []) (line ∷ []) ≡ refuse 6
+  missing : map (λ n. readRows n (dries ∷ []) []) (0 ∷ 8 ∷ []) ≡ refuse 4 [] ∷ refuse 4 [] ∷ []
+  ninth : readRows 0 (dries ∷ []) (cut line (10 ∷ []) ∷ []) ≡ refuse 6 (line ++ (10 ∷ []))
+  -- "An empty line while there is no row is a line that stands there"; "`)` alone in a row's place: 5 at it"
+  no-row : map read ("" ∷ "\r\nA" ∷ ")\n" ∷ []) ≡ refuse 4 [] ∷ refuse 4 (bytes "\r\nA") ∷ refuse 5 (bytes ")\n") ∷ []
+  -- "a missing group: the row's end, .. before a closing `)` and before the CR of CR LF"
+  row-end : map read ("01120640)" ∷ "01120640 \r\n" ∷ []) ≡ refuse 24 (bytes ")") ∷ refuse 24 (bytes "\r\n") ∷ []
+  -- "7: the runway group of the later row", behind any spaces
+  twice : read "01120640 12 6/6/6 DRY/DRY/DRY\n01120641   12 6/6/6 DRY/DRY/DRY)" ≡ refuse 7 (bytes "12 6/6/6 DRY/DRY/DRY)")
+  -- "for bytes after the end the first of them"
+  after : read "01120640 12 6/6/6 DRY/DRY/DRY)\r\n)" ≡ refuse 4 (bytes ")")
   -- a refused reading is blank
-  none : noRows 5 ≡ told 5 (record { count = 0; rows = replicate 8 blankRow }) false 0
-  closed-rows : rowsAnswer 0 rows true 31 ≡ told 0 rows true 0
-  open-rows : rowsAnswer 0 rows false 31 ≡ told 0 rows false 31
-  refused-rows : map (λ n. rowsAnswer n rows true 31) (1 ∷ 7 ∷ []) ≡ noRows 1 ∷ noRows 7 ∷ []
-  held-none : RowsHeld [] (noRows 4)
+  none : noRows 5 7 ≡ record { refusal = 5; place = 7; rows = record { count = 0; rows = replicate 8 blankRow }; closed = false; next = 0 }
+  closed-rows : rowsAnswer 0 7 rows true 31 ≡ told 0 rows true 0
+  open-rows : rowsAnswer 0 7 rows false 31 ≡ told 0 rows false 31
+  refused-rows : map (λ n. rowsAnswer n 7 rows true 31) (1 ∷ 7 ∷ []) ≡ noRows 1 7 ∷ noRows 7 7 ∷ []
+  held-none : RowsHeld [] (noRows 4 0)
   held-closed : RowsHeld line (told 0 rows true 0)
 
 pub answers : Answers
-unfolding _and_ skip readText readName readDigits measurePieces readMeasure readCoverage readDescription readThird readGroup readFull readShort readWidth
-    readRow isShortMonth daysOf realDay realClock realTime validRunway isContaminant isDeep isCoverage validCoverage leastDepth isReported validDepth
-    validThird threeThat validRow isBare isSix isDry isShort lines linesSize closed allButLast isAmong readRows rowsAnswer
+unfolding _and_ skip readText readName readDigits measurePieces readMeasure readCoverage readDescription readThird readGroup
+    parted mayCover mayLie readWidth timeGroup runwayGroup codeGroup coverageGroup depthGroup descriptionGroup widthGroup short findRow
+    isShortMonth daysOf realDay realClock realTime validRunway isContaminant isDeep isCoverage validCoverage leastDepth isReported validDepth
+    validThird threeThat validRow isBare isSix isDry isShort cuts linesSize closed allButLast sameRunway isAmong readRows rowsAnswer
 answers = record {
   most = refl;
   missing = refl;
   ninth = refl;
+  no-row = refl;
+  row-end = refl;
+  twice = refl;
+  after = refl;
   none = refl;
   closed-rows = refl;
   open-rows = refl;
   refused-rows = refl;
-  held-none = record { kept = record { few = lit≤ tt; zeros = refl }; says = refl; place = refl; blank = refl };
-  held-closed = record { kept = record { few = lit≤ tt; zeros = refl }; says = refl; place = refl; blank = refl };
+  held-none = record { kept = record { few = lit≤ tt; zeros = refl }; inside = lit≤ tt; says = refl; behind = refl; blank = refl };
+  held-closed = record { kept = record { few = lit≤ tt; zeros = refl }; inside = lit≤ tt; says = refl; behind = refl; blank = refl };
 }

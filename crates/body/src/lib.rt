@@ -24,6 +24,7 @@ use row::valid_row;
 use rowtext::put_any_row;
 use rowtext::read_row;
 use runway::is_later;
+use scan::spaces;
 use text::first_line;
 use text::is_closed;
 use text::place;
@@ -36,15 +37,19 @@ pub struct Rows {
     pub rows: [Row; 8],
 }
 
-// The rows of a message. A refused reading is blank; `)` closed the rows, or what follows them starts at `next`.
+// The rows of a message. A refused reading is blank but for its place; `)` closed the rows, or what follows them starts at `next`.
 pub struct RowsRead {
     pub refusal: u8,
+    pub place: usize,
     pub rows: Rows,
     pub closed: bool,
     pub next: usize,
 }
 
 pub const MOST_ROWS: u8 = 8;
+
+// How many digits a row's time has.
+const TIME_SIZE: usize = 8;
 
 fn same_runway(a: Row, b: Row) -> bool
     ensures { λ r. ⌜ r ≡ sameRunway a b ⌝ }
@@ -168,9 +173,10 @@ pub fn latest_time(r: Rows) -> u32
     t
 }
 
-// A line in a row's place: its row, or the refusal, and whether `)` closes it.
+// A line in a row's place: its row, or the refusal and its place, and whether `)` closes it.
 pub struct RowLine {
     pub refusal: u8,
+    pub place: usize,
     pub row: Row,
     pub closed: bool,
 }
@@ -184,6 +190,7 @@ fn row_line(line: &[u8]) -> RowLine
     let row = read.row;
     RowLine {
         refusal: read.refusal,
+        place: read.place,
         row,
         closed,
     }
@@ -199,12 +206,13 @@ fn blank_rows() -> Rows
     }
 }
 
-fn no_rows(refusal: u8) -> RowsRead
-    ensures { λ r. ⌜ r ≡ noRows refusal ⌝ }
+fn no_rows(refusal: u8, place: usize) -> RowsRead
+    ensures { λ r. ⌜ r ≡ noRows refusal place ⌝ }
 {
     let rows = blank_rows();
     RowsRead {
         refusal,
+        place,
         rows,
         closed: false,
         next: 0,
@@ -225,30 +233,24 @@ fn last_row(next: usize, length: usize) -> u8
     if next < length { refusal::OUTLINE } else { 0 }
 }
 
-fn rows_answer(refusal: u8, rows: Rows, closed: bool, at: usize) -> RowsRead
-    ensures { λ r. ⌜ r ≡ rowsAnswer refusal rows closed at ⌝ }
+fn rows_answer(refusal: u8, told: usize, rows: Rows, closed: bool, at: usize) -> RowsRead
+    ensures { λ r. ⌜ r ≡ rowsAnswer refusal told rows closed at ⌝ }
 {
     if refusal != 0 {
-        return no_rows(refusal);
+        return no_rows(refusal, told);
     }
-    if closed {
-        return RowsRead {
-            refusal: 0,
-            rows,
-            closed: true,
-            next: 0,
-        };
-    }
+    let next = if closed { 0 } else { at };
     RowsRead {
         refusal: 0,
+        place: 0,
         rows,
-        closed: false,
-        next: at,
+        closed,
+        next,
     }
 }
 
-// The rows at the front of `m`, line by line: the first line that does not fit decides. 4: none stands there; 6: a ninth; 5: no row;
-// 7: its runway is one of those before it.
+// The rows at the front of `m`, line by line: the first line that does not fit decides. 4: none stands there; 6: a ninth; 5, 24 to 28: no row;
+// 7: its runway is one of those before it. A line is told at its first byte, a row at the group at fault, and bytes after the end at the first.
 pub fn read_rows(m: &[u8]) -> RowsRead
     ensures { λ r. ⌜ RowsHeld (now (m .entry)) r ⌝ }
 {
@@ -257,11 +259,13 @@ pub fn read_rows(m: &[u8]) -> RowsRead
     let mut count: u8 = 0;
     let mut closed = false;
     let mut at: usize = 0;
+    let mut told: usize = 0;
     let refusal: u8 = 'lines: loop {
+        let start = at;
+        told = start;
         if m.len() <= at {
             break 'lines refusal::OUTLINE;
         }
-        let start = at;
         let line = first_line(&m[start..]);
         let size = line.size;
         let end = start + size;
@@ -274,7 +278,8 @@ pub fn read_rows(m: &[u8]) -> RowsRead
         }
         let read = row_line(&m[start..end]);
         if read.refusal != 0 {
-            break 'lines refusal::NO_ROW;
+            told = start + read.place;
+            break 'lines read.refusal;
         }
         let row = read.row;
         // in place, since a call would copy the array for each row
@@ -282,6 +287,8 @@ pub fn read_rows(m: &[u8]) -> RowsRead
         while k < count {
             let r = rows[k as usize];
             if same_runway(r, row) {
+                // behind the time
+                told = spaces(m, start + TIME_SIZE);
                 break 'lines refusal::RUNWAY_TWICE;
             }
             k += 1;
@@ -290,11 +297,12 @@ pub fn read_rows(m: &[u8]) -> RowsRead
         count += 1;
         closed = read.closed;
         if closed {
+            told = at;
             break 'lines last_row(at, m.len());
         }
     };
     let kept = Rows { count, rows };
-    rows_answer(refusal, kept, closed, at)
+    rows_answer(refusal, told, kept, closed, at)
 }
 
 // ---- Writing

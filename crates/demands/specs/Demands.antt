@@ -5,20 +5,23 @@ use Prim.Native.Nat.{ℕ, _<_, _≤_, _+_, _*_}
 use mathlib.Core.Path.{_≡_, refl, sym, subst, _∙_, ap}
 use mathlib.Core.List.{List, [], _∷_, _++_, List·Permᴰ}
 use mathlib.Core.Bool.{cond, not, Bool, true, false}
-use mathlib.Core.Logic.{_↔_}
+use mathlib.Core.Logic.{_↔_, _⊎_, inl, inr}
 use native.Mathlib.Omega.{arith}
 use lib.Dec.{eqb, leb, ltb}
 use lib.ListN.{length, take, drop, getD}
-use borrow.Author.Tests.{eqb-true, lt-ltb, le-ltb}
-use Rattle.text.specs.Choice.{member, isEmpty}
+use borrow.Author.Tests.{eqb-true, eqb-false, leb-true, leb-false, lt-ltb, le-ltb}
+use Rattle.text.specs.Choice.{_and_, member, isEmpty}
 use Rattle.text.specs.Piece.{bytes}
 use Rattle.text.specs.Lines.{lines}
 use Rattle.text.specs.Put.{Put}
 use Rattle.text.specs.Read.{Got, misfit, got, whole}
+use Rattle.text.specs.Out.{Out, refuse, taken}
+use Rattle.text.specs.Laws.Base.{true-false, and-1, and-2}
 use Rattle.text.specs.Laws.Arrays.{take-front}
+use Rattle.text.specs.Laws.Out.{Within, stopped, Any, number-range}
 use Rattle.text.specs.Refusals.{tooLong, lineOneOrTwo, lineThree, outline, noRow, ninthRow, runwayTwice, wrongItems, wrongLanguage, serialsDiffer}
 use Rattle.text.specs.Refusals.{aerodromesDiffer, notLatestTime, invalidRecord, bufferTooShort, outOfRange, contradiction, wrongBoard, notOnBoard, invalidRow}
-use Rattle.text.specs.Refusals.{notLater, noReport, othersRunway, noDesk}
+use Rattle.text.specs.Refusals.{notLater, noReport, othersRunway, noDesk, wrongRunway, wrongCodes, wrongCoverageOrDepth, wrongDescriptions, wrongWidth}
 use Rattle.surface.specs.declared.Observation.{Observation}
 use Rattle.surface.specs.declared.Assessment.{Assessment}
 use Rattle.surface.specs.Descriptions.{notReported, dry}
@@ -30,7 +33,9 @@ use Rattle.row.specs.declared.Row.{Row}
 use Rattle.row.specs.declared.Agreement.{Agreement}
 use Rattle.row.specs.Row.{validRow}
 use Rattle.row.specs.Agreement.{agreement}
-use Rattle.rowtext.specs.Reading.{wholeRow}
+use Rattle.rowtext.specs.declared.RowRead.{RowRead}
+use Rattle.rowtext.specs.Reading.{findRow, rowAnswer}
+use Rattle.rowtext.specs.Laws.Faults.{isRowNumber, row-within}
 use Rattle.rowtext.specs.Writing.{rowText, WroteRow}
 use Rattle.rowtext.specs.Theorems as RowText
 use Rattle.items.specs.declared.Items.{Items}
@@ -45,6 +50,7 @@ use Rattle.notice.specs.Reading.{reading}
 use Rattle.notice.specs.Writing.{unwritten, writing, Wrote}
 use Rattle.notice.specs.Rewriting.{rewriting, Rewrote}
 use Rattle.notice.specs.Laws.Reading.{among}
+use Rattle.notice.specs.Laws.Reading as Numbers
 use Rattle.notice.specs.Theorems as Notice
 use Rattle.notice.specs.Theorems.{Told}
 use Rattle.board.specs.declared.Runway.{Runway}
@@ -74,11 +80,16 @@ abbrev pub _takenOrRefusedBy_ : ℕ → List ℕ → Type 0
 n takenOrRefusedBy ns = member (0 ∷ ns) n ≡ true
 
 infixr 20 _takenOrRefusedBy_
--- reading a message: 1 to 12
+-- reading a row: "5 keeps the row's time", 24 to 28
+abbrev pub rowRefusals : List ℕ
+rowRefusals = noRow ∷ wrongRunway ∷ wrongCodes ∷ wrongCoverageOrDepth ∷ wrongDescriptions ∷ wrongWidth ∷ []
+
+-- reading a message: 1 to 12 and 24 to 28
 abbrev pub readingRefusals : List ℕ
 readingRefusals =
     tooLong ∷ lineOneOrTwo ∷ lineThree ∷ outline ∷ noRow ∷ ninthRow ∷ runwayTwice ∷ wrongItems ∷ wrongLanguage
-    ∷ serialsDiffer ∷ aerodromesDiffer ∷ notLatestTime ∷ []
+    ∷ serialsDiffer ∷ aerodromesDiffer ∷ notLatestTime
+    ∷ wrongRunway ∷ wrongCodes ∷ wrongCoverageOrDepth ∷ wrongDescriptions ∷ wrongWidth ∷ []
 
 -- "Assessing: 15, 16"
 abbrev pub assessingRefusals : List ℕ
@@ -110,9 +121,60 @@ or-by k ns n h = go (eqb 0 n) (eqb k n) h
     go false true g = refl
     go false false g = g
 
+-- a number of one list is one of two lists
+either-list : (ns ks : List ℕ) (n : ℕ) → (member ns n ≡ true) ⊎ (member ks n ≡ true) → member (ns ++ ks) n ≡ true
+either-list [] ks n (inl h) = true-false (sym h)
+either-list [] ks n (inr h) = h
+either-list (k ∷ ns) ks n h = go (eqb k n) h (either-list ns ks n)
+  where
+    go : (t : Bool) → (cond t true (member ns n) ≡ true) ⊎ (member ks n ≡ true) → ((member ns n ≡ true) ⊎ (member ks n ≡ true) → member (ns ++ ks) n ≡ true)
+        → cond t true (member (ns ++ ks) n) ≡ true
+    go true g ih = refl
+    go false g ih = ih g
+
 -- "Every message .. is taken or refused by number": `read`
 pub message-by-number : (m : List ℕ) (a : Reading) → a ≡ reading m → a .refusal takenOrRefusedBy readingRefusals
-message-by-number m a e = rw e (among 13 0 (reading m .refusal) (omega arith) (omega (arith, Notice.refusal-range m)))
+message-by-number m a e = rw e (go (eqb (reading m .refusal) 0) refl)
+  where
+    go : (t : Bool) → eqb (reading m .refusal) 0 ≡ t → reading m .refusal takenOrRefusedBy readingRefusals
+    go true q = rw (eqb-true (reading m .refusal) 0 q)
+    go false q =
+        let n = reading m .refusal in
+        let r = number-range n (Notice.refused-numbered m (eqb-false n 0 q) .number) in
+        either-list (Numbers.from 0 13) (Numbers.from 24 5) n (sides (leb n 12) refl r)
+      where
+        sides : (b : Bool) → leb (reading m .refusal) 12 ≡ b → (reading m .refusal ≤ 12 → 1 ≤ reading m .refusal) × (12 < reading m .refusal
+            → 24 ≤ reading m .refusal) × (reading m .refusal ≤ 28)
+            → (member (Numbers.from 0 13) (reading m .refusal) ≡ true) ⊎ (member (Numbers.from 24 5) (reading m .refusal) ≡ true)
+        sides true f r = let l = leb-true (reading m .refusal) 12 f in inl (among 13 0 (reading m .refusal) (omega arith) (omega arith))
+        sides false f r =
+            let l = leb-false (reading m .refusal) 12 f in
+            let g = r .1 l in
+            inr (among 5 24 (reading m .refusal) g (omega (arith, r .2)))
+
+row-named : (line : List ℕ) → rowAnswer line (findRow line) .refusal takenOrRefusedBy rowRefusals
+unfolding isRowNumber
+row-named line = go (findRow line) (row-within line)
+  where
+    named : (n : ℕ) (t : Bool) → eqb 5 n ≡ t → (b : Bool) → eqb n 5 ≡ b → cond b true (leb 24 n and leb n 28) ≡ true
+        → cond t true (member (Numbers.from 24 5) n) ≡ true
+    named n true p b q h = refl
+    named n false p true q h = absurd (eqb-false 5 n p (sym (eqb-true n 5 q)))
+    named n false p false q h =
+        let l = leb-true 24 n (and-1 (leb 24 n) (leb n 28) h) in
+        let k = leb-true n 28 (and-2 (leb 24 n) (leb n 28) h) in
+        among 5 24 n l (omega arith)
+
+    or-zero : (n : ℕ) → member rowRefusals n ≡ true → n takenOrRefusedBy rowRefusals
+    or-zero n h = either-list (0 ∷ []) rowRefusals n (inr h)
+
+    go : (o : Out Row) → Within isRowNumber line Any o → rowAnswer line o .refusal takenOrRefusedBy rowRefusals
+    go (refuse n left) (stopped h t) = or-zero n (named n (eqb 5 n) refl (eqb n 5) refl h)
+    go (taken r) w = refl
+
+-- a row's text, `read_row`
+pub row-by-number : (line : List ℕ) (a : RowRead) → a ≡ rowAnswer line (findRow line) → a .refusal takenOrRefusedBy rowRefusals
+row-by-number line a e = rw e (row-named line)
 
 -- `rewrite`: the same, and 14
 pub rewriting-by-number : {m before after : List ℕ} {w : Written} → Rewrote m before after w → w .refusal takenOrRefusedBy (bufferTooShort ∷ readingRefusals)
@@ -177,21 +239,27 @@ report-by-number b x a e =
 pub step-by-number : (b c : Board) (x : Sent) (n : ℕ) → (c ≡ reportOf b x .board) × (n ≡ reportOf b x .refusal) → n takenOrRefusedBy reportRefusals
 step-by-number b c x n p = rw (p .1) (report-by-number b x (reportOf b x) refl)
 
--- `report_line`: 5 too, where the line does not start with a desk or is no row behind that
-pub line-by-number : (b : Board) (l : List ℕ) (a : Answer) → a ≡ reportLine b l → a .refusal takenOrRefusedBy (noRow ∷ reportRefusals)
+-- `report_line`: 5 too where the line does not start with a desk, and a row's refusals where it is no row behind that
+pub line-by-number : (b : Board) (l : List ℕ) (a : Answer) → a ≡ reportLine b l → a .refusal takenOrRefusedBy (rowRefusals ++ reportRefusals)
 unfolding reportLine
 line-by-number b l a e = rw e (either Named (leb (length l) 4096) (started (readSender l)) refl)
   where
     Named : Answer → Type 0
-    Named x = x .refusal takenOrRefusedBy (noRow ∷ reportRefusals)
+    Named x = x .refusal takenOrRefusedBy (rowRefusals ++ reportRefusals)
 
-    go : (d : ℕ) (g : Got Row) → Named (reportRead b d g)
-    go d misfit = refl
-    go d (got r k) = or-by noRow reportRefusals (report b d r .refusal) (report-by-number b (d sends r) (report b d r) refl)
+    go : (d : ℕ) (line : List ℕ) (o : Out Row) → findRow line ≡ o → Named (reportRead b d o)
+    go d line (refuse n left) q =
+        either-list (0 ∷ rowRefusals) reportRefusals n (inl (subst (λ (o : Out Row). rowAnswer line o .refusal takenOrRefusedBy rowRefusals) q
+        (row-named line)))
+    go d line (taken r) q =
+        let n = report b d r .refusal in
+        or-by noRow (24 ∷ 25 ∷ 26 ∷ 27 ∷ 28 ∷ reportRefusals) n (or-by 24 (25 ∷ 26 ∷ 27 ∷ 28 ∷ reportRefusals) n (or-by 25 (26 ∷ 27 ∷ 28 ∷ reportRefusals) n
+        (or-by 26 (27 ∷ 28 ∷ reportRefusals) n (or-by 27 (28 ∷ reportRefusals) n (or-by 28 reportRefusals n (report-by-number b (d sends r)
+        (report b d r) refl))))))
 
     started : (g : Got ℕ) → Named (reportStarted b g)
     started misfit = refl
-    started (got d k) = go d (wholeRow k)
+    started (got d k) = go d k (findRow k) refl
 
 -- "Every .. record ..": `write`
 pub record-by-number : {r : Record} {before after : List ℕ} {w : Written} → Wrote r before after w → w .refusal takenOrRefusedBy writingRefusals
@@ -234,13 +302,13 @@ refused-report-line b l a e h =
     Kept : Answer → Type 0
     Kept x = (x .refusal ≡ 0 → ⊥) → x .board ≡ b
 
-    go : (d : ℕ) (g : Got Row) → Kept (reportRead b d g)
-    go d misfit = λ k. refl
-    go d (got r m) = refused-report b (d sends r) (report b d r) refl
+    go : (d : ℕ) (o : Out Row) → Kept (reportRead b d o)
+    go d (refuse n left) = λ k. refl
+    go d (taken r) = refused-report b (d sends r) (report b d r) refl
 
     started : (g : Got ℕ) → Kept (reportStarted b g)
     started misfit = λ k. refl
-    started (got d m) = go d (wholeRow m)
+    started (got d m) = go d (findRow m)
 
 -- "a refused writing touches no byte of the buffer", and answers length 0: `write`
 pub refused-writing : {r : Record} {before after : List ℕ} {w : Written} → Wrote r before after w → (w .refusal ≡ 0 → ⊥) → (after ≡ before) × (w .length ≡ 0)

@@ -16,13 +16,16 @@ use Rattle.text.specs.Numbers.{readDigits}
 use Rattle.text.specs.declared.Found.{Found}
 use Rattle.text.specs.Code.Held.{Held, none}
 use Rattle.text.specs.Laws.Held.{missed}
+use Rattle.text.specs.Out.{Out, refuse, taken}
 use Rattle.text.specs.Laws.Base.{true-false}
+use Rattle.text.specs.Laws.Out.{Within, stopped, Any}
+use Rattle.rowtext.specs.Laws.Faults.{isRowNumber, row-within}
 use Rattle.text.specs.Laws.Put.{canonical-append}
 use Rattle.row.specs.declared.Row.{Row}
 use Rattle.rowtext.specs.declared.RowRead.{RowRead}
 use Rattle.row.specs.Row.{validRow}
 use Rattle.rowtext.specs.Text.{rowPieces}
-use Rattle.rowtext.specs.Reading.{wholeRow, rowAnswer}
+use Rattle.rowtext.specs.Reading.{findRow, rowAnswer}
 use Rattle.text.specs.Refusals.{noRow}
 use Rattle.frontlines.specs.Letters.{isLetters}
 use Rattle.frontlines.specs.Heading.{aerodromeSize, readAerodrome}
@@ -124,24 +127,25 @@ module _ (m : List ℕ) where
     starts h s = record { within = omega arith; says = rw (e, add-one, drop-cons m (d .next) 0 h, s); blank = refl }
 
 -- what stands behind it
-module _ (b : Board) (desk : ℕ) (rest : List ℕ) (r : RowRead) (e : r ≡ rowAnswer (wholeRow rest)) where
-  pub no-row : (r .refusal ≡ 0 → ⊥) → answer noRow b ≡ reportRead b desk (wholeRow rest)
-  no-row z = go (wholeRow rest) (λ k. z (ap (λ (x : RowRead). x .refusal) e ∙ k))
+module _ (b : Board) (desk : ℕ) (rest : List ℕ) (r : RowRead) (e : r ≡ rowAnswer rest (findRow rest)) where
+  pub no-row : (r .refusal ≡ 0 → ⊥) → answer (r .refusal) b ≡ reportRead b desk (findRow rest)
+  no-row z = rw e (go (findRow rest) (λ k. z (ap (λ (x : RowRead). x .refusal) e ∙ k)))
     where
-      go : (g : Got Row) → (rowAnswer g .refusal ≡ 0 → ⊥) → answer noRow b ≡ reportRead b desk g
-      go misfit z = refl
-      go (got r k) z = absurd (z refl)
+      go : (o : Out Row) → (rowAnswer rest o .refusal ≡ 0 → ⊥) → answer (rowAnswer rest o .refusal) b ≡ reportRead b desk o
+      go (refuse n left) z = refl
+      go (taken r) z = absurd (z refl)
 
-  pub row-reported : r .refusal ≡ 0 → report b desk (r .row) ≡ reportRead b desk (wholeRow rest)
-  row-reported z = rw e (go (wholeRow rest) (ap (λ (x : RowRead). x .refusal) (sym e) ∙ z))
+  pub row-reported : r .refusal ≡ 0 → report b desk (r .row) ≡ reportRead b desk (findRow rest)
+  unfolding isRowNumber _and_
+  row-reported z = rw e (go (findRow rest) (row-within rest) (ap (λ (x : RowRead). x .refusal) (sym e) ∙ z))
     where
-      go : (g : Got Row) → rowAnswer g .refusal ≡ 0 → report b desk (rowAnswer g .row) ≡ reportRead b desk g
-      go misfit z = absurd (omega arith)
-      go (got r k) z = refl
+      go : (o : Out Row) → Within isRowNumber rest Any o → rowAnswer rest o .refusal ≡ 0 → report b desk (rowAnswer rest o .row) ≡ reportRead b desk o
+      go (refuse n left) (stopped h t) z = true-false (sym h ∙ ap isRowNumber z)
+      go (taken r) w z = refl
 
 -- the line of a report
 module _ (b : Board) (line : List ℕ) (h : length line ≤ longest) where
-  pub line-started : {d : ℕ} {rest : List ℕ} → readSender line ≡ got d rest → reportRead b d (wholeRow rest) ≡ reportLine b line
+  pub line-started : {d : ℕ} {rest : List ℕ} → readSender line ≡ got d rest → reportRead b d (findRow rest) ≡ reportLine b line
   unfolding reportLine
   line-started e = rw (le-leb (length line) longest h, e)
 

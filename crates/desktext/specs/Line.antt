@@ -14,10 +14,11 @@ use Rattle.runway.specs.Runway.{readRunway, runwayPieces}
 use Rattle.row.specs.declared.Row.{Row}
 use Rattle.row.specs.Row.{validRow}
 use Rattle.rowtext.specs.Text.{rowPieces}
-use Rattle.rowtext.specs.Reading.{wholeRow}
+use Rattle.rowtext.specs.Reading.{findRow}
 use Rattle.text.specs.Refusals.{noRow}
 use Rattle.frontlines.specs.Heading.{readAerodrome}
 use Rattle.text.specs.Lines.{longest}
+use Rattle.text.specs.Out.{Out, refuse, taken}
 use Rattle.board.specs.declared.Runway.{Runway}
 use Rattle.board.specs.declared.Board.{Board}
 use Rattle.board.specs.declared.Answer.{Answer}
@@ -97,15 +98,16 @@ senderPieces d = digits 1 d then (byte 32 ∷ [])
 unfoldable pub readSender : List ℕ → Got ℕ
 readSender = readAs (λ p. p .0) (readSeq (readDigits 1) (readCount isSpace 1))
 
--- "5 where the line is no row under freedoms (a), (b) and (d)": "with no row after it, 5 comes before all others"
-abbrev pub reportRead : Board → ℕ → Got Row → Answer
-reportRead b desk misfit = answer noRow b
-reportRead b desk (got r k) = report b desk r
+-- "5 where the line is no row under freedoms (a), (b) and (d)": "with no row after it, 5 comes before all others"; request 2, by the group at fault:
+-- "The desk program prints these too."
+abbrev pub reportRead : Board → ℕ → Out Row → Answer
+reportRead b desk (refuse n left) = answer n b
+reportRead b desk (taken r) = report b desk r
 
 -- "without that start" 5
 abbrev pub reportStarted : Board → Got ℕ → Answer
 reportStarted b misfit = answer noRow b
-reportStarted b (got desk rest) = reportRead b desk (wholeRow rest)
+reportStarted b (got desk rest) = reportRead b desk (findRow rest)
 
 -- "or is over 4,096 bytes", digit and space included
 unfoldable pub reportLine : Board → List ℕ → Answer

@@ -16,7 +16,8 @@ use Rattle.surface.specs.Third.{isBlankThird, isCoverage, validCoverage, leastD
 use Rattle.thirds.specs.Groups.{measurePieces, readMeasure, readCoverage, readDescription, thirdPieces, readThird, readGroup}
 use Rattle.row.specs.Row.{blankRow, threeThat, isBlankRow, validRow, isBare, isSix, isDry, isShort}
 use Rattle.rowtext.specs.Text.{middlePieces, widthPieces, rowPieces}
-use Rattle.rowtext.specs.Reading.{readFull, readShort, readWidth, readRow}
+use Rattle.rowtext.specs.Reading.{parted, mayCover, mayLie, readWidth, timeGroup, runwayGroup, codeGroup, coverageGroup, depthGroup, descriptionGroup}
+use Rattle.rowtext.specs.Reading.{widthGroup, short, findRow}
 use Rattle.frontlines.specs.Letters.{isLetters}
 use Rattle.frontlines.specs.Heading.{readAerodrome}
 use Rattle.board.specs.Board.{isBlankRunway, comesBefore, rises, rising, isAerodrome, validList, names, fitsPlace, fitPlaces, validPlaces, isDesk, validOwners}
@@ -55,12 +56,16 @@ pub record Lines : Type 0 where
   report : reportLine board (bytes "1 01120610 07L 6/6/6 DRY/DRY/DRY") ≡ answer 0 (holding (left ∷ []))
   typed : reportLine board (bytes "1 01120610  07L 6/6/6 NR/NR/NR NR/NR/NR DRY/DRY/DRY") ≡ answer 0 (holding (left ∷ []))
   rows : rowLines ("" ∷ ")" ∷ "1 01120610 07L 6/6/6 DRY/DRY/DRY)" ∷ "1 02300000 07L 6/6/6 DRY/DRY/DRY" ∷ "1 01120610 07 6/6/6 DRY/DRY/DRY" ∷ [])
-      ≡ 5 ∷ 5 ∷ 5 ∷ 5 ∷ 18 ∷ []
-  -- without that start, or with no row after it, 5 comes before all others
+      ≡ 5 ∷ 5 ∷ 26 ∷ 5 ∷ 18 ∷ []
+  -- request 2: the group at fault, before 23, 18 and 22
+  groups : rowLines ("1 01120610" ∷ "1 01120610 7L 6/6/6 DRY/DRY/DRY" ∷ "3 01120610 07L 7/6/6 DRY/DRY/DRY" ∷ "2 01120610 07L 5/5/5 NR/NR/NR"
+      ∷ "1 01120610 07 5/5/5 25/NR/NR NR/NR/NR FROST/ICE/X" ∷ "1 01120610 07L 5/5/5 25/NR/NR NR/NR/NR FROST/ICE/ICE 00" ∷ [])
+      ≡ 24 ∷ 24 ∷ 25 ∷ 26 ∷ 27 ∷ 28 ∷ []
+  -- without that start, or with nothing after it, 5 comes before all others, and so does the number of a row
   starts : rowLines ("12 01120610 07L 6/6/6 DRY/DRY/DRY" ∷ "A 01120610 07L 6/6/6 DRY/DRY/DRY" ∷ " 1 01120610 07L 6/6/6 DRY/DRY/DRY"
       ∷ "101120610 07L 6/6/6 DRY/DRY/DRY" ∷ "01120610 07L 6/6/6 DRY/DRY/DRY"
       ∷ "1  01120610 07L 6/6/6 DRY/DRY/DRY" ∷ "1" ∷ "1 " ∷ "3 RUBBISH" ∷ "9 01120640 19 6/6/6 DRY/DRY/DRY" ∷ [])
-      ≡ 5 ∷ 5 ∷ 5 ∷ 5 ∷ 5 ∷ 5 ∷ 5 ∷ 5 ∷ 5 ∷ 5 ∷ []
+      ≡ 5 ∷ 5 ∷ 5 ∷ 5 ∷ 5 ∷ 5 ∷ 5 ∷ 5 ∷ 5 ∷ 24 ∷ []
   -- "23 no such desk", also where the runway is not on the board; "22 runway belongs to the other desk"
   desks : rowLines ("3 01120610 07L 6/6/6 DRY/DRY/DRY" ∷ "0 01120610 07L 6/6/6 DRY/DRY/DRY" ∷ "3 01120610 07 6/6/6 DRY/DRY/DRY"
       ∷ "2 01120610 07L 6/6/6 DRY/DRY/DRY" ∷ "1 01120610 07R 6/6/6 DRY/DRY/DRY" ∷ "2 01120610 07R 6/6/6 DRY/DRY/DRY" ∷ "2 01120610 07 6/6/6 DRY/DRY/DRY" ∷ [])
@@ -90,8 +95,9 @@ pub record Lines : Type 0 where
 pub lines : Lines
 unfolding _and_ spell skip readText readMany readName readCount digits readDigits isShortMonth daysOf realDay realClock realTime later validRunway
     isContaminant isDeep isCoverage validCoverage leastDepth isReported validDepth validThird isBlankThird measurePieces readMeasure readCoverage
-    readDescription thirdPieces readThird readGroup threeThat isBlankRow validRow isBare isSix isDry isShort middlePieces widthPieces rowPieces readFull
-    readShort readWidth readRow isLetters readAerodrome isAerodrome isBlankRunway comesBefore rises rising validList names fitsPlace fitPlaces validPlaces
+    readDescription thirdPieces readThird readGroup threeThat isBlankRow validRow isBare isSix isDry isShort middlePieces widthPieces rowPieces
+    parted mayCover mayLie readWidth timeGroup runwayGroup codeGroup coverageGroup depthGroup descriptionGroup widthGroup short findRow
+    isLetters readAerodrome isAerodrome isBlankRunway comesBefore rises rising validList names fitsPlace fitPlaces validPlaces
     isDesk validOwners validOpening validBoard opening placeOf isNews refusal report readSpaced readOwner readOwned readOpening openingLine readSender
     reportLine shownText linesFrom linesAnswered
 lines = record {
@@ -105,6 +111,7 @@ lines = record {
   report = refl;
   typed = refl;
   rows = refl;
+  groups = refl;
   starts = refl;
   desks = refl;
   again = refl;

@@ -17,7 +17,8 @@ use Rattle.surface.specs.Third.{isBlankThird, isCoverage, validCoverage, leastD
 use Rattle.thirds.specs.Groups.{measurePieces, readMeasure, readCoverage, readDescription, thirdPieces, readThird, readGroup}
 use Rattle.row.specs.Row.{threeThat, isBlankRow, validRow, isBare, isSix, isDry, isShort}
 use Rattle.rowtext.specs.Text.{middlePieces, widthPieces, rowPieces}
-use Rattle.rowtext.specs.Reading.{readFull, readShort, readWidth, readRow}
+use Rattle.rowtext.specs.Reading.{parted, mayCover, mayLie, readWidth, timeGroup, runwayGroup, codeGroup, coverageGroup, depthGroup, descriptionGroup}
+use Rattle.rowtext.specs.Reading.{widthGroup, short, findRow}
 use Rattle.frontlines.specs.Letters.{isLetters}
 use Rattle.frontlines.specs.Heading.{readAerodrome}
 use Rattle.board.specs.Board.{isBlankRunway, comesBefore, rises, rising, isAerodrome, validList, names, fitsPlace, fitPlaces, validPlaces, isDesk, validOwners}
@@ -60,7 +61,7 @@ pub record Inputs : Type 0 where
   last : deskText (text ("XQAA 07L/1" ∷ []) ++ bytes "1 01120610 07L 6/6/6 DRY/DRY/DRY") ≡ text ("OPEN" ∷ "0" ∷ "01120610 07L 6/6/6 DRY/DRY/DRY" ∷ [])
   -- every further line is a row line; CR LF ends it as LF does; with no row taken nothing is shown
   lines : deskText (bytes "XQAA 07L/1" ++ (13 ∷ 10 ∷ []) ++ text ("" ∷ "2 01120610 07R 6/6/6 DRY/DRY/DRY" ∷ "1 01120610 07L 6/6/6 DRY/DRY/DRY)" ∷ []))
-      ≡ text ("OPEN" ∷ "5" ∷ "18" ∷ "5" ∷ [])
+      ≡ text ("OPEN" ∷ "5" ∷ "18" ∷ "26" ∷ [])
   -- in pieces: none, and empty ones
   no-piece : fed [] ≡ text ("REFUSED 17" ∷ [])
   empty-pieces : fed ([] ∷ bytes "XQAA 0" ∷ [] ∷ bytes "7L/1" ∷ []) ≡ text ("OPEN" ∷ [])
@@ -69,7 +70,7 @@ pub record Inputs : Type 0 where
       ≡ text ("OPEN" ∷ "0" ∷ "01120610 07L 6/6/6 DRY/DRY/DRY" ∷ [])
   -- a CR that no LF follows is text: on the first line, and on a row line that lacks its end
   return-alone : fed (bytes "XQAA 07L/1" ∷ (13 ∷ []) ∷ []) ∷ fed (text ("XQAA 07L/1" ∷ []) ∷ bytes "1 01120610 07L 6/6/6 DRY/DRY/DRY" ∷ (13 ∷ []) ∷ []) ∷ []
-      ≡ text ("REFUSED 17" ∷ []) ∷ text ("OPEN" ∷ "5" ∷ []) ∷ []
+      ≡ text ("REFUSED 17" ∷ []) ∷ text ("OPEN" ∷ "26" ∷ []) ∷ []
   -- the last line lacks its end
   last-in-pieces : fed (text ("XQAA 07L/1" ∷ []) ∷ bytes "1 01120610 07L 6/6/6 DRY" ∷ bytes "/DRY/DRY" ∷ [])
       ≡ text ("OPEN" ∷ "0" ∷ "01120610 07L 6/6/6 DRY/DRY/DRY" ∷ [])
@@ -93,8 +94,9 @@ pub record Inputs : Type 0 where
 pub inputs : Inputs
 unfolding _and_ lines spell skip readText readMany readName readCount digits readDigits isShortMonth daysOf realDay realClock realTime later validRunway
     isContaminant isDeep isCoverage validCoverage leastDepth isReported validDepth validThird isBlankThird measurePieces readMeasure readCoverage
-    readDescription thirdPieces readThird readGroup threeThat isBlankRow validRow isBare isSix isDry isShort middlePieces widthPieces rowPieces readFull
-    readShort readWidth readRow isLetters readAerodrome isAerodrome isBlankRunway comesBefore rises rising validList names fitsPlace fitPlaces validPlaces
+    readDescription thirdPieces readThird readGroup threeThat isBlankRow validRow isBare isSix isDry isShort middlePieces widthPieces rowPieces
+    parted mayCover mayLie readWidth timeGroup runwayGroup codeGroup coverageGroup depthGroup descriptionGroup widthGroup short findRow
+    isLetters readAerodrome isAerodrome isBlankRunway comesBefore rises rising validList names fitsPlace fitPlaces validPlaces
     isDesk validOwners validOpening validBoard opening placeOf isNews refusal report readSpaced readOwner readOwned readOpening openingLine readSender
     reportLine shownText answerLine shownRows answersText deskText reportLines deskBoard
     afterLine lineAnswer endAnswer withoutReturn afterByte byteAnswer fedState fedText lastStanding lastText finishText piecesText flatten

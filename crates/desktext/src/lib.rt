@@ -12,7 +12,7 @@ ghost use lib.ListN.{length, take, drop, getD};
 ghost use Rattle.text.specs.Read.{misfit, whole};
 ghost use Rattle.runway.specs.Code.Held.{HeldRunway};
 ghost use Rattle.text.specs.Code.Held.{Held};
-ghost use Rattle.rowtext.specs.Reading.{wholeRow};
+ghost use Rattle.rowtext.specs.Reading.{findRow};
 ghost use Rattle.row.specs.Row.{blankRow};
 use board::Answer;
 use board::BLANK_RUNWAY;
@@ -195,9 +195,9 @@ fn sender(line: &[u8]) -> Found
     NONE
 }
 
-// The report of the row behind a line's start: 5 where there is no row.
+// The report of the row behind a line's start, or the refusal of the group at fault where there is no row.
 fn report_rest(b: Board, desk: u32, rest: &[u8]) -> Answer
-    ensures { λ a. ⌜ a ≡ reportRead b desk (wholeRow (now (rest .entry))) ⌝ }
+    ensures { λ a. ⌜ a ≡ reportRead b desk (findRow (now (rest .entry))) ⌝ }
 {
     let read = read_row(rest);
     if read.refusal == 0 {
@@ -205,12 +205,12 @@ fn report_rest(b: Board, desk: u32, rest: &[u8]) -> Answer
         return updated(b, Sent { desk, row });
     }
     Answer {
-        refusal: refusal::NO_ROW,
+        refusal: read.refusal,
         board: b,
     }
 }
 
-// The report that a line is: 5 where it does not start with a desk, is no row behind that, or is over 4,096 bytes.
+// The report that a line is: 5 where it does not start with a desk or is over 4,096 bytes, and the row's refusal where it is no row behind that.
 fn report_line(b: Board, line: &[u8]) -> Answer
     ensures { λ a. ⌜ a ≡ reportLine b (now (line .entry)) ⌝ }
 {

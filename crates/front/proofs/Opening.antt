@@ -1,19 +1,20 @@
 -- The front, line by line: what each answer says, and one step of the loop.
 use Prim.Native.Nat.{ℕ, suc, _+_, _-_, _<_, _≤_}
 use mathlib.Core.Path.{_≡_, refl, sym, _∙_, ap}
-use mathlib.Core.List.{List, [], _∷_}
+use mathlib.Core.List.{List, [], _∷_, _++_}
 use mathlib.Core.Bool.{cond, Bool, true, false}
 use native.Mathlib.Numerals.{add-one}
 use native.Mathlib.Omega.{arith}
 use lib.Dec.{eqb, ltb}
 use borrow.Author.Tests.{ne-eqb}
-use lib.ListN.{length, take, drop, drop-of-length-le}
+use lib.ListN.{length, take, drop, drop-of-length-le, take-append-drop}
+use lib.Seq.{drop-drop}
 use Rattle.text.specs.Read.{Got, misfit, got, andThen, whole}
-use Rattle.text.specs.Lines.{lines, linesSize}
+use Rattle.text.specs.Lines.{Cut, cut, onward, cuts, linesSize}
 use Rattle.text.specs.Code.Held.{Held, firstLine}
 use Rattle.text.specs.declared.Line.{Line}
 use Rattle.text.specs.declared.Found.{Found}
-use Rattle.text.specs.Laws.Lines.{whole-got, line-lines}
+use Rattle.text.specs.Laws.Lines.{whole-got, line-cuts}
 use Rattle.frontlines.specs.declared.Addresses.{Addresses}
 use Rattle.frontlines.specs.declared.Filing.{Filing}
 use Rattle.frontlines.specs.declared.AddressesRead.{AddressesRead}
@@ -26,7 +27,7 @@ use Rattle.frontlines.specs.Heading.{Heading, readHeading, readSerialLine, read
 use Rattle.frontlines.specs.Code.Answers.{addressesAnswer, filingAnswer, headingAnswer, aerodromeAnswer}
 use Rattle.text.specs.Out.{refuse}
 use Rattle.front.specs.declared.Front.{Front}
-use Rattle.front.specs.Code.Front.{frontCount, blankFront, withAddresses, withFiling, withHeading, withSerial, withAerodrome, fillLine, lineRefusal, nextLine, fillLines, frontAnswer, FrontHeld}
+use Rattle.front.specs.Code.Front.{frontCount, Opening, unopened, kept, withAddresses, withFiling, withHeading, withSerial, withAerodrome, fillLine, lineRefusal, nextLine, fillLines, frontAnswer, FrontHeld}
 
 -- what a line's answer stands for
 addresses-says : (g : Got Addresses) {r : AddressesRead} → r ≡ addressesAnswer (whole g) → whole g ≡ cond (r .fits) (got (r .addresses) []) misfit
@@ -99,32 +100,40 @@ one-left : (k : ℕ) → k < frontCount → frontCount - k ≡ suc (frontCount -
 one-left k h = omega arith
 
 -- no line is left
-pub line-missing : (m : List ℕ) (at k : ℕ) (f : Front) → k < frontCount → length m ≤ at → fillLines (frontCount - k) k f (lines (drop at m)) ≡ refuse (lineRefusal k)
-unfolding fillLines nextLine lines
-line-missing m at k f h e = rw (one-left k h, drop-of-length-le m e)
+pub line-missing : (m : List ℕ) (at k : ℕ) (o : Opening) → k < frontCount → length m ≤ at → fillLines (frontCount - k) k o (cuts (drop at m)) ≡ refuse (lineRefusal k) (drop at m)
+unfolding fillLines nextLine cuts
+line-missing m at k o h e = rw (one-left k h, drop-of-length-le m e)
 
 -- the line k fits, or does not
-module _ (m : List ℕ) (at : ℕ) (w : at < length m) {n : Line} (e : n ≡ firstLine (take (length m - at) (drop at m))) (k : ℕ) (f : Front) (l : k < frontCount) (b : Bool) (g : Front) (h : fillLine k f (take (at + n .size - at) (drop at m)) ≡ cond b (got g []) misfit) where
-  there : lines (drop at m) ≡ take (at + n .size - at) (drop at m) ∷ lines (drop (at + n .next) m)
-  there = let s : at + n .size - at ≡ n .size = omega arith in rw s (line-lines m at w e)
+module _ (m : List ℕ) (at : ℕ) (w : at < length m) {n : Line} (e : n ≡ firstLine (take (length m - at) (drop at m))) (k : ℕ) (o : Opening) (l : k < frontCount) (b : Bool) (g : Front) (h : fillLine k (o .front) (take (at + n .size - at) (drop at m)) ≡ cond b (got g []) misfit) where
+  pub here : Cut
+  here = cut (take (at + n .size - at) (drop at m)) (drop (at + n .size) m)
 
-  pub step-on : b ≡ true → fillLines (frontCount - k) k f (lines (drop at m)) ≡ fillLines (frontCount - (k + 1)) (k + 1) g (lines (drop (at + n .next) m))
-  unfolding fillLines nextLine
+  there : cuts (drop at m) ≡ here ∷ cuts (drop (at + n .next) m)
+  unfolding here
+  there = let s : at + n .size - at ≡ n .size = omega arith in rw s (line-cuts m at w e)
+
+  starts : onward here ≡ drop at m
+  unfolding here
+  starts = let s : at + n .size - at ≡ n .size = omega arith in rw s (ap (λ k. take (n .size) (drop at m) ++ k) (sym (drop-drop (n .size) at m)) ∙ take-append-drop (n .size) (drop at m))
+
+  pub step-on : b ≡ true → fillLines (frontCount - k) k o (cuts (drop at m)) ≡ fillLines (frontCount - (k + 1)) (k + 1) (kept k here o g) (cuts (drop (at + n .next) m))
+  unfolding fillLines nextLine here
   step-on t = rw (one-left k l, there, h, t, add-one k)
 
-  pub step-off : b ≡ false → fillLines (frontCount - k) k f (lines (drop at m)) ≡ refuse (lineRefusal k)
-  unfolding fillLines nextLine
-  step-off t = rw (one-left k l, there, h, t)
+  pub step-off : b ≡ false → fillLines (frontCount - k) k o (cuts (drop at m)) ≡ refuse (lineRefusal k) (drop at m)
+  unfolding fillLines nextLine here
+  step-off t = rw (one-left k l, there, h, t) (ap (refuse (lineRefusal k)) starts)
 
 -- all lines are read, or the line k does not fit
-module _ (m : List ℕ) (at k : ℕ) (f : Front) (w : at ≤ length m) (l : at ≡ linesSize k m) (left : fillLines (frontCount - k) k f (lines (drop at m)) ≡ fillLines frontCount 0 blankFront (lines m)) where
-  pub front-read : k ≤ frontCount → frontCount ≤ k → FrontHeld m (frontAnswer 0 f at)
+module _ (m : List ℕ) (at k : ℕ) (o : Opening) (w : at ≤ length m) (l : at ≡ linesSize k m) (left : fillLines (frontCount - k) k o (cuts (drop at m)) ≡ fillLines frontCount 0 unopened (cuts m)) where
+  pub front-read : k ≤ frontCount → frontCount ≤ k → (start : ℕ) → FrontHeld m (frontAnswer 0 start (o .front) at)
   unfolding fillLines frontAnswer
-  front-read h e =
+  front-read h e start =
       let n : frontCount - k ≡ 0 = omega arith in
       let z : k ≡ frontCount = omega arith in
-      record { within = w; says = sym left ∙ rw n; place = l ∙ ap (λ (i : ℕ). linesSize i m) z; blank = refl }
+      record { within = w; inside = omega arith; opening = o; fronts = refl; says = sym left ∙ rw n; behind = l ∙ ap (λ (i : ℕ). linesSize i m) z; blank = refl }
 
-  pub front-refused : (n : ℕ) → n ≡ lineRefusal k → fillLines (frontCount - k) k f (lines (drop at m)) ≡ refuse (lineRefusal k) → (g : Front) (i : ℕ) → FrontHeld m (frontAnswer n g i)
+  pub front-refused : (n : ℕ) → n ≡ lineRefusal k → fillLines (frontCount - k) k o (cuts (drop at m)) ≡ refuse (lineRefusal k) (drop at m) → (g : Front) (i : ℕ) → FrontHeld m (frontAnswer n at g i)
   unfolding frontAnswer
-  front-refused n e o g i = rw (e, refuses k) (record { within = omega arith; says = sym left ∙ o ∙ rw (refuses k); place = rw (refuses k); blank = rw (refuses k) })
+  front-refused n e q g i = rw (e, refuses k) (record { within = omega arith; inside = w; opening = unopened; fronts = refl; says = sym left ∙ q ∙ rw (refuses k); behind = rw (refuses k); blank = rw (refuses k) })

@@ -11,7 +11,7 @@ use Rattle.text.specs.Read.{Got, got, skip, readText, readMany}
 use Rattle.text.specs.Names.{readCount, readName}
 use Rattle.text.specs.Numbers.{digits, readDigits}
 use Rattle.text.specs.Arrays.{slots, pastSlots, flat}
-use Rattle.text.specs.Lines.{lines}
+use Rattle.text.specs.Lines.{Cut, cut, cuts}
 use Rattle.text.specs.Out.{Out, refuse, taken}
 use Rattle.runway.specs.Time.{isShortMonth, daysOf, realDay, realClock, realTime}
 use Rattle.frontlines.specs.declared.Title.{Title}
@@ -20,8 +20,9 @@ use Rattle.frontlines.specs.Addresses.{makeAddresses, readAddresses, addressesP
 use Rattle.frontlines.specs.Filing.{realFiling, readFiling, filingPieces}
 use Rattle.frontlines.specs.Heading.{readHeading, readSerialLine, readAerodrome, headingPieces, serialPieces, aerodromePieces}
 use Rattle.front.specs.declared.Front.{Front}
+use Rattle.front.specs.Places.{timeOn, serialOn}
 use Rattle.front.specs.Code.Front.{blankFront, withAddresses, withFiling, withHeading, withSerial, withAerodrome, frontCount, fillLine, lineRefusal}
-use Rattle.front.specs.Code.Front.{nextLine, fillLines, noFront, frontAnswer, FrontHeld, frontText}
+use Rattle.front.specs.Code.Front.{Opening, unopened, nextLine, fillLines, noFront, frontAnswer, FrontHeld, frontText}
 
 abbrev title : Title
 title = record { region = bytes "XQ"; serial = 7; aerodrome = bytes "XQAA" }
@@ -46,8 +47,18 @@ abbrev line : ℕ → String → Got Front
 line k s = fillLine k blankFront (bytes s)
 
 -- so many lines, and what is left
-abbrev read : List ℕ → Out (Front × List (List ℕ))
-read m = fillLines frontCount 0 blankFront (lines m)
+abbrev read : List ℕ → Out (Opening × List Cut)
+read m = fillLines frontCount 0 unopened (cuts m)
+
+-- lines 3, 4 and 5 of the message below, in a longer one
+abbrev lineThree : List ℕ → Cut
+lineThree behind = cut (bytes "SWXQ0007 XQAA 01120640") ((10 ∷ bytes "(SNOWTAM 0007") ++ (10 ∷ bytes "XQAA") ++ behind)
+
+abbrev lineFour : List ℕ → Cut
+lineFour behind = cut (bytes "(SNOWTAM 0007") ((10 ∷ bytes "XQAA") ++ behind)
+
+abbrev lineFive : List ℕ → Cut
+lineFive behind = cut (bytes "XQAA") behind
 
 pub record Fronts : Type 0 where
   blank : blankFront ≡ record {
@@ -66,15 +77,25 @@ pub record Fronts : Type 0 where
   fifth : line 4 "XQAA" ≡ got (withAerodrome blankFront (bytes "XQAA")) []
   -- "A missing line 1 or 2 gives 2, a missing line 3 gives 3, any later one 4", and so does a line that does not fit
   refusals : map lineRefusal (0 ∷ 1 ∷ 2 ∷ 3 ∷ 4 ∷ []) ≡ 2 ∷ 2 ∷ 3 ∷ 4 ∷ 4 ∷ []
-  all-lines : read (message ++ (10 ∷ bytes "0112")) ≡ taken (full, bytes "0112" ∷ [])
-  missing : map read ([] ∷ bytes "GG XQAAYNYX" ∷ (bytes "GG XQAAYNYX" ++ (10 ∷ bytes "120645 XQAAYNYX")) ∷ []) ≡ refuse 2 ∷ refuse 2 ∷ refuse 3 ∷ []
-  answered : frontAnswer 0 full 79 ≡ record { refusal = 0; front = full; next = 79 }
-  refused : map (λ n. frontAnswer n full 79) (1 ∷ 4 ∷ []) ≡ record { refusal = 1; front = blankFront; next = 0 } ∷ noFront 4 ∷ []
-  held : FrontHeld [] (noFront 2)
+  all-lines : read (message ++ (10 ∷ bytes "0112"))
+      ≡ taken (
+        record { front = full; third = lineThree (10 ∷ bytes "0112"); fourth = lineFour (10 ∷ bytes "0112"); fifth = lineFive (10 ∷ bytes "0112") },
+        cut (bytes "0112") [] ∷ [],
+      )
+  -- "for a missing line .. the message's length", "For lines .. the line's first byte"
+  missing : map read ([] ∷ bytes "GG XQAAYNYX" ∷ (bytes "GG XQAAYNYX" ++ (10 ∷ bytes "120645 XQAAYNYX")) ∷ []) ≡ refuse 2 [] ∷ refuse 2 [] ∷ refuse 3 [] ∷ []
+  misfits : map read (bytes "GG" ∷ (bytes "GG XQAAYNYX" ++ (13 ∷ 10 ∷ bytes "1 X" ++ (10 ∷ bytes "SW"))) ∷ [])
+      ≡ refuse 2 (bytes "GG") ∷ refuse 2 (bytes "1 X" ++ (10 ∷ bytes "SW")) ∷ []
+  -- the places of 12 and 10 in lines with other spacing
+  times : timeOn (cut (bytes "SWXQ0007   XQAA  01120640") (10 ∷ [])) ≡ bytes "01120640" ++ (10 ∷ [])
+  serials : serialOn (cut (bytes "(SNOWTAM   0007") (13 ∷ 10 ∷ [])) ≡ bytes "0007" ++ (13 ∷ 10 ∷ [])
+  answered : frontAnswer 0 7 full 79 ≡ record { refusal = 0; place = 0; front = full; next = 79 }
+  refused : map (λ n. frontAnswer n 7 full 79) (1 ∷ 4 ∷ []) ≡ record { refusal = 1; place = 7; front = blankFront; next = 0 } ∷ noFront 4 7 ∷ []
+  held : FrontHeld [] (noFront 2 0)
   written : frontText (full .addresses) (full .filing) title 1120640 ≡ message
 
 pub fronts : Fronts
-unfolding _and_ spell skip readText readMany readCount readName readDigits digits slots pastSlots flat lines isShortMonth daysOf realDay realClock realTime
+unfolding _and_ spell skip readText readMany readCount readName readDigits digits slots pastSlots flat cuts isShortMonth daysOf realDay realClock realTime
     isLetters readAddresses addressesPieces realFiling readFiling filingPieces readHeading readSerialLine readAerodrome headingPieces serialPieces
     aerodromePieces fillLine lineRefusal nextLine fillLines frontAnswer
 fronts = record {
@@ -87,8 +108,11 @@ fronts = record {
   refusals = refl;
   all-lines = refl;
   missing = refl;
+  misfits = refl;
+  times = refl;
+  serials = refl;
   answered = refl;
   refused = refl;
-  held = record { within = lit≤ tt; says = refl; place = refl; blank = refl };
+  held = record { within = lit≤ tt; inside = lit≤ tt; opening = unopened; fronts = refl; says = refl; behind = refl; blank = refl };
   written = refl;
 }

@@ -40,9 +40,10 @@ pub struct Front {
     pub aerodrome: [u8; 4],
 }
 
-// The front of a message; what is below it starts at `next`. Blank where a line does not fit, with the refusal of the first such.
+// The front of a message; what is below it starts at `next`. Blank where a line does not fit, with the refusal of the first such and its place.
 pub struct FrontRead {
     pub refusal: u8,
+    pub place: usize,
     pub front: Front,
     pub next: usize,
 }
@@ -87,39 +88,43 @@ fn line_refusal(k: u8) -> u8
     }
 }
 
-fn front_answer(refusal: u8, front: Front, at: usize) -> FrontRead
-    ensures { λ r. ⌜ r ≡ frontAnswer refusal front at ⌝ }
+fn front_answer(refusal: u8, start: usize, front: Front, at: usize) -> FrontRead
+    ensures { λ r. ⌜ r ≡ frontAnswer refusal start front at ⌝ }
 {
     if refusal != 0 {
         let blank = blank_front();
         return FrontRead {
             refusal,
+            place: start,
             front: blank,
             next: 0,
         };
     }
     FrontRead {
         refusal: 0,
+        place: 0,
         front,
         next: at,
     }
 }
 
-// Lines 1 to 5, each at its place in the message and filled in place: the first that is missing or does not fit decides.
+// Lines 1 to 5, each at its place in the message and filled in place: the first that is missing or does not fit decides, at its first byte, which
+// is the message's length where it is missing.
 pub fn read_front(m: &[u8]) -> FrontRead
     ensures { λ r. ⌜ FrontHeld (now (m .entry)) r ⌝ }
 {
     let mut front = blank_front();
+    let mut start: usize = 0;
     let mut at: usize = 0;
     let mut k: u8 = 0;
     let refusal: u8 = 'lines: loop {
         if LINES <= k {
             break 'lines 0;
         }
+        start = at;
         if m.len() <= at {
             break 'lines line_refusal(k);
         }
-        let start = at;
         let first = first_line(&m[start..]);
         let end = start + first.size;
         let line = &m[start..end];
@@ -162,7 +167,7 @@ pub fn read_front(m: &[u8]) -> FrontRead
         }
         k += 1;
     };
-    front_answer(refusal, front, at)
+    front_answer(refusal, start, front, at)
 }
 
 // ---- Writing

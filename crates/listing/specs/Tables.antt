@@ -5,7 +5,7 @@ use mathlib.Core.List.{List, [], _∷_, _++_, map}
 use lib.ListN.{replicate}
 use Rattle.text.specs.Choice.{_and_}
 use Rattle.text.specs.Arrays.{slots, flat}
-use Rattle.text.specs.Lines.{lines, closed, allButLast, ended}
+use Rattle.text.specs.Lines.{cuts, closed, allButLast, ended}
 use Rattle.text.specs.Names.{isMark, readCount, run, past, readName}
 use Rattle.text.specs.Numbers.{readDigits, digits}
 use Rattle.text.specs.Piece.{spell}
@@ -17,7 +17,8 @@ use Rattle.surface.specs.Table1.{table1, isShallow, firstFitting, canHold, allo
 use Rattle.surface.specs.Third.{isCoverage, validCoverage, leastDepth, isReported, validDepth, validThird}
 use Rattle.thirds.specs.Groups.{measurePieces, readMeasure, readCoverage, readDescription, thirdPieces, readThird, highest, readGroup}
 use Rattle.row.specs.Agreement.{disagrees, disagreements}
-use Rattle.rowtext.specs.Reading.{readFull, readShort, readWidth, readRow}
+use Rattle.rowtext.specs.Reading.{parted, mayCover, mayLie, readWidth, timeGroup, runwayGroup, codeGroup, coverageGroup, depthGroup, descriptionGroup}
+use Rattle.rowtext.specs.Reading.{widthGroup, short, findRow}
 use Rattle.row.specs.Row.{threeThat, validRow, isBare, isSix, isDry, isShort}
 use Rattle.rowtext.specs.Text.{middlePieces, widthPieces, rowPieces}
 use Rattle.frontlines.specs.Addresses.{addressesPieces, readAddresses}
@@ -33,7 +34,6 @@ use Rattle.items.specs.ReadItem.{readLength, readBank, readNeither, readDetail,
 use Rattle.items.specs.ReadItem.{readApronForm, readBareForm, readForm, readBody, readItem}
 use Rattle.body.specs.Rows.{isAmong, newRunways, latestOf, latestFrom, latest, readRows}
 use Rattle.record.specs.Notice.{noticeLines, notice, noticeText}
-use Rattle.record.specs.Answer.{mismatch}
 use Rattle.notice.specs.Reading.{agreeing, readNotice, reading}
 use Rattle.notice.specs.Examples.{message, headed, typed, retyped}
 use Rattle.listing.specs.Listing.{disagreeingThirds, counted, acceptedLine, refusedLine, listed, listing}
@@ -52,14 +52,16 @@ pub record Tables : Type 0 where
   long : map listing (spaces 4096 ∷ spaces 4097 ∷ []) ≡ message ("REFUSED 2" ∷ []) ∷ message ("REFUSED 1" ∷ []) ∷ []
 
 pub tables : Tables
-unfolding slots flat _and_ lines closed allButLast ended run past isMark readCount readName readDigits digits spell skip readText readMany validRunway
+unfolding slots flat _and_ cuts closed allButLast ended run past isMark readCount readName readDigits digits spell skip readText readMany validRunway
     isShortMonth daysOf realDay realClock realTime later isContaminant isDeep isCoverage validCoverage leastDepth isReported validDepth validThird
-    measurePieces readMeasure readCoverage readDescription thirdPieces readThird highest readGroup readFull readShort readWidth readRow threeThat validRow
+    measurePieces readMeasure readCoverage readDescription thirdPieces readThird highest readGroup parted mayCover mayLie readWidth timeGroup
+    runwayGroup codeGroup coverageGroup depthGroup descriptionGroup widthGroup short findRow
+    threeThat validRow
     isBare isSix isDry isShort middlePieces widthPieces rowPieces addressesPieces readAddresses realFiling filingPieces readFiling headingPieces readHeading
     serialPieces readSerialLine aerodromePieces readAerodrome isLetters sameRunway otherApron mayRepeat mayFollow inOrder awarenessPieces readAwareness
     wholeAwareness onRunway onTaxiways runwayFits amountFits edgeFits countFits isTaxiway validSlot isNew slotsFit taxiwaysFit nameFits numbersFit validItem
     itemText itemPieces lastIs validLanguage wholeLanguage readLength readBank readNeither readDetail readTaxiway readTaxiways readApron readRunwayForm
     readTaxiForm readApronForm readBareForm readForm readBody readItem isAmong newRunways latestOf latestFrom latest readRows noticeLines notice noticeText
-    mismatch agreeing readNotice reading Rows.sameRunway table1 isShallow firstFitting canHold allows agrees disagrees disagreements disagreeingThirds
+    agreeing readNotice reading Rows.sameRunway table1 isShallow firstFitting canHold allows agrees disagrees disagreements disagreeingThirds
     counted acceptedLine refusedLine listed listing
 tables = record { accepted = refl; refused = refl; long = refl }

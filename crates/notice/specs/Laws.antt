@@ -3,6 +3,9 @@ pub mod Lines
 pub mod Size
 pub mod Reading
 pub mod Front
+pub mod Disagree
 pub mod Text
 pub mod Rewriting
 pub mod Same
+pub mod Wrong
+pub mod Verdict

@@ -3,6 +3,7 @@ pub mod Reading
 pub mod Writing
 pub mod Rewriting
 pub mod Same
+pub mod Wrong
 pub mod Code
 pub mod Laws
 pub mod Theorems

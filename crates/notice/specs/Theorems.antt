@@ -1,20 +1,26 @@
 -- Demand 2: a message of at most 4,096 bytes is accepted exactly when some valid record's text differs from it only by the four
 -- freedoms, and that record is the one returned. A written valid record reads back as that record.
-use Prim.Native.Nat.{ℕ, _≤_}
+use Prim.Native.Nat.{ℕ, _<_, _≤_}
 use mathlib.Core.Path.{_≡_, refl, sym, subst, _∙_, ap}
 use mathlib.Core.List.{List, [], _++_}
 use mathlib.Core.Bool.{cond, Bool, true, false}
-use mathlib.Core.Logic.{_↔_}
+use mathlib.Core.Logic.{_↔_, _⊎_, inl, inr}
 use lib.Dec.{eqb, leb}
 use lib.ListN.{length, take, drop}
-use borrow.Author.Tests.{eqb-true, eqb-false, ne-eqb, leb-true, le-leb}
+use borrow.Author.Tests.{eqb-true, eqb-false, ne-eqb, leb-true, leb-false, le-leb}
 use native.Mathlib.Omega.{arith}
 use Rattle.text.specs.Piece.{Typing}
-use Rattle.text.specs.Lines.{lines, ended}
+use Rattle.text.specs.Lines.{longest, cuts, ended}
+use Rattle.text.specs.Choice.{_and_}
+use Rattle.text.specs.Laws.Base.{true-false}
 use Rattle.text.specs.Laws.Arrays.{take-front}
 use Rattle.text.specs.Laws.Typing.{canonical-typed}
-use Rattle.text.specs.Laws.Lines.{lines-sound, lines-complete}
-use Rattle.text.specs.Out.{Out, refuse, taken}
+use Rattle.text.specs.Laws.Lines.{Tells, lines-sound, lines-complete}
+use Rattle.text.specs.Laws.Left.{left-place}
+use Rattle.text.specs.Laws.Cuts.{cuts-text, cuts-ends}
+use Rattle.text.specs.Laws.Out.{Within, stopped, Any, isNumber, number-range}
+use Rattle.text.specs.Out.{Out, refuse, taken, place}
+use Rattle.frontlines.specs.Addresses.{validAddresses}
 use Rattle.record.specs.declared.Record.{Record}
 use Rattle.record.specs.declared.Reading.{Reading}
 use Rattle.notice.specs.declared.Written.{Written}
@@ -25,24 +31,27 @@ use Rattle.record.specs.Answer.{accepted, refused}
 use Rattle.notice.specs.Writing.{unwritten, writing, written, Wrote}
 use Rattle.notice.specs.Rewriting.{rewriting, rewritten, Rewrote}
 use Rattle.notice.specs.Same.{TellSame, SaysSame}
+use Rattle.notice.specs.Wrong.{Wrong, tooLong}
 use Rattle.notice.specs.Laws.Parts.{made, partLines, partsOf, lines-are, parts-kept, good-valid, valid-good, made-back}
-use Rattle.notice.specs.Laws.Lines.{notice-sound, notice-complete, notice-numbered, lines-inline}
+use Rattle.notice.specs.Laws.Lines.{notice-sound, notice-complete, notice-within, lines-inline}
 use Rattle.notice.specs.Laws.Size.{text-fits}
-use Rattle.notice.specs.Laws.Reading.{result-took, result-low}
+use Rattle.notice.specs.Laws.Reading.{result-took}
+use Rattle.notice.specs.Laws.Wrong.{wrong-refused}
+use Rattle.notice.specs.Laws.Verdict.{Verdict, wrong, right, verdict}
 
 -- sound: an accepted reading's record is valid, the message is a typing of its notice, and has at most 4,096 bytes
 pub sound : (m : List ℕ) (r : Record) → reading m ≡ accepted r → (validRecord r ≡ true) × Typing (notice r) m × (length m ≤ 4096)
 unfolding reading notice
 sound m r e = go (leb (length m) 4096) refl e
   where
-    go : (b : Bool) → leb (length m) 4096 ≡ b → cond b (result (readNotice (lines m))) (refused 1) ≡ accepted r
+    go : (b : Bool) → leb (length m) 4096 ≡ b → cond b (result m (readNotice (cuts m))) (refused 1 4096) ≡ accepted r
         → (validRecord r ≡ true) × Typing (ended (noticeLines r)) m × (length m ≤ 4096)
     go false q f = let z = ap (λ x. x .refusal) f in absurd (omega arith)
     go true q f =
-        let t = notice-sound (lines m) (result-took (readNotice (lines m)) (notice-numbered (lines m)) f) in
+        let t = notice-sound (cuts m) (result-took m (readNotice (cuts m)) (notice-within m (cuts m) (cuts-ends m)) f) in
         let n = lines-are (made (t .parts)) ∙ ap partLines (parts-kept (t .parts) (t .good)) in (
           subst (λ s. validRecord s ≡ true) (t .is) (good-valid (t .parts) (t .good)),
-          subst (λ s. Typing (ended (noticeLines s)) m) (t .is) (subst (λ k. Typing (ended k) m) (sym n) (lines-sound (t .tells) m refl)),
+          subst (λ s. Typing (ended (noticeLines s)) m) (t .is) (subst (λ k. Typing (ended k) m) (sym n) (lines-sound (t .tells) m (sym (cuts-text m)))),
           leb-true (length m) 4096 q,
         )
 
@@ -52,7 +61,7 @@ unfolding reading notice noticeLines
 complete m r v t l =
     let g = valid-good r v in
     let s = lines-complete _ _ (lines-inline (partsOf r) g) t in
-    rw (le-leb (length m) 4096 l, notice-complete (partsOf r) g s) (ap accepted (made-back r v))
+    rw (le-leb (length m) 4096 l, notice-complete (partsOf r) (cuts m) g (subst (Tells _) (sym (cuts-text m)) s)) (ap accepted (made-back r v))
 
 -- every valid record's text has at most 4,096 bytes
 pub never-too-long : (r : Record) → validRecord r ≡ true → length (noticeText r) ≤ 4096
@@ -66,20 +75,29 @@ back r v = complete (noticeText r) r v (canonical-typed (notice r)) (text-fits r
 -- refused means blank
 pub refused-blank : (m : List ℕ) → (reading m .refusal ≡ 0 → ⊥) → reading m .«record» ≡ blankRecord
 unfolding reading
-refused-blank m h = go (leb (length m) 4096) (readNotice (lines m)) h
+refused-blank m h = go (leb (length m) 4096) (readNotice (cuts m)) h
   where
-    go : (b : Bool) (o : Out Record) → (cond b (result o) (refused 1) .refusal ≡ 0 → ⊥) → cond b (result o) (refused 1) .«record» ≡ blankRecord
-    go true (refuse n) k = refl
+    go : (b : Bool) (o : Out Record) → (cond b (result m o) (refused 1 4096) .refusal ≡ 0 → ⊥) → cond b (result m o) (refused 1 4096) .«record» ≡ blankRecord
+    go true (refuse n left) k = refl
     go true (taken r) k = absurd (k refl)
     go false o k = refl
 
 -- an accepted reading is its record
 pub accepted-is : (m : List ℕ) → reading m .refusal ≡ 0 → reading m ≡ accepted (reading m .«record»)
-accepted-is m e = λ i. record { refusal = e i; «record» = reading m .«record» }
+unfolding reading
+accepted-is m e = go (leb (length m) 4096) (readNotice (cuts m)) (notice-within m (cuts m) (cuts-ends m)) e
+  where
+    go : (b : Bool) (o : Out Record) → Within isNumber m Any o → cond b (result m o) (refused 1 4096) .refusal ≡ 0
+        → cond b (result m o) (refused 1 4096) ≡ accepted (cond b (result m o) (refused 1 4096) .«record»)
+    go true (refuse n left) (stopped h t) z = let k = number-range n h .0 (omega arith) in absurd (omega arith)
+    go true (taken r) w z = refl
+    go false o w z = absurd (omega arith)
 
 -- so the record of an accepted message is valid
 pub read-valid : (m : List ℕ) (a : Reading) → a ≡ reading m → a .refusal ≡ 0 → validRecord (a .«record») ≡ true
-read-valid m a e z = sound m (a .«record») (sym e ∙ (λ i. record { refusal = z i; «record» = a .«record» })) .0
+read-valid m a e z =
+    let q = ap (λ x. x .refusal) (sym e) ∙ z in
+    rw e (sound m (reading m .«record») (accepted-is m q) .0)
 
 -- accepted exactly when some valid record's notice is typed so
 pub record Told (m : List ℕ) : Type 0 where
@@ -105,14 +123,44 @@ one-record m r s v w l t u = ap (λ x. x .«record») (sym (complete m r v t l) 
 pub one-text : (r s : Record) → validRecord r ≡ true → validRecord s ≡ true → noticeText r ≡ noticeText s → r ≡ s
 one-text r s v w e = ap (λ x. x .«record») (sym (back r v) ∙ (ap reading e ∙ back s w))
 
--- a reading's refusal is 0 to 12
-pub refusal-range : (m : List ℕ) → reading m .refusal ≤ 12
+-- a refused message of at most 4,096 bytes: its number, and what is left of it at its place
+pub record Stands (m : List ℕ) (n : ℕ) (left : List ℕ) : Type 0 where
+  pub answer : reading m ≡ refused n (place m left)
+  pub number : isNumber n ≡ true
+  pub within : place m left ≤ length m
+  pub there : drop (place m left) m ≡ left
+
+pub refused-stands : (m : List ℕ) (n : ℕ) (left : List ℕ) → length m ≤ 4096 → readNotice (cuts m) ≡ refuse n left → Stands m n left
 unfolding reading
-refusal-range m = go (leb (length m) 4096)
+refused-stands m n left l e = go (subst (Within isNumber m Any) e (notice-within m (cuts m) (cuts-ends m)))
   where
-    go : (b : Bool) → cond b (result (readNotice (lines m))) (refused 1) .refusal ≤ 12
-    go true = result-low (readNotice (lines m)) (notice-numbered (lines m))
-    go false = omega arith
+    go : Within isNumber m {A = Record} Any (refuse n left) → Stands m n left
+    go (stopped h t) = record { answer = rw (le-leb (length m) 4096 l, e); number = h; within = omega arith; there = left-place t }
+
+-- the number of a refused reading is 1 to 12 or 24 to 28, and its place is at most the message's length
+pub record Numbered (m : List ℕ) (a : Reading) : Type 0 where
+  pub number : isNumber (a .refusal) ≡ true
+  pub within : a .place ≤ length m
+
+pub refused-numbered : (m : List ℕ) → (reading m .refusal ≡ 0 → ⊥) → Numbered m (reading m)
+unfolding reading isNumber
+refused-numbered m h = go (leb (length m) longest) refl (readNotice (cuts m)) (notice-within m (cuts m) (cuts-ends m)) h
+  where
+    go : (b : Bool) → leb (length m) longest ≡ b → (o : Out Record) → Within isNumber m Any o → (cond b (result m o) (refused 1 longest) .refusal ≡ 0 → ⊥)
+        → Numbered m (cond b (result m o) (refused 1 longest))
+    go true e (refuse n left) (stopped q t) k = record { number = q; within = omega arith }
+    go true e (taken r) w k = absurd (k refl)
+    go false e o w k = let l = leb-false (length m) longest e in record { number = refl; within = omega arith }
+
+-- so no reading's refusal is above 28, and none is 13
+pub refusal-range : (m : List ℕ) → (reading m .refusal ≤ 28) × (reading m .refusal ≡ 13 → ⊥)
+refusal-range m = go (eqb (reading m .refusal) 0) refl
+  where
+    go : (b : Bool) → eqb (reading m .refusal) 0 ≡ b → (reading m .refusal ≤ 28) × (reading m .refusal ≡ 13 → ⊥)
+    go true e = let z = eqb-true (reading m .refusal) 0 e in (omega arith, λ k. omega arith)
+    go false e =
+        let r = number-range (reading m .refusal) (refused-numbered m (eqb-false (reading m .refusal) 0 e) .number) in
+        (r .2, λ k. let h = r .1 (omega arith) in omega arith)
 
 -- writing's promise leaves no choice
 pub wrote-one : {r : Record} {b x y : List ℕ} {v w : Written} → Wrote r b x v → Wrote r b y w → (v ≡ w) × (x ≡ y)
@@ -135,7 +183,7 @@ never-invalid m room = go (eqb (reading m .refusal) 0) refl
     go true e f =
         let r = reading m .«record» in
         answered (leb (length (noticeText r)) room) (length (noticeText r)) (rw (read-valid m (reading m) refl (eqb-true (reading m .refusal) 0 e)) at f)
-    go false e f = omega (arith, refusal-range m)
+    go false e f = refusal-range m .1 f
 
 -- a text is written: as many bytes as are answered are the text, none where the writing is refused, and then every byte of the buffer is as before
 pub record Filled (text before after : List ℕ) (w : Written) : Type 0 where
@@ -207,3 +255,39 @@ says-one true true p q = refl
 says-one true false p q = sym (q .1 (p .0 refl))
 says-one false true p q = p .1 (q .0 refl)
 says-one false false p q = refl
+
+-- every kind of refusal in plain terms (`Wrong`): a message is refused by a number at a place exactly if it is wrong so
+blank-invalid : validRecord blankRecord ≡ false
+unfolding validRecord validAddresses _and_
+blank-invalid = refl
+
+pub wrong-exactly : (m : List ℕ) (n p : ℕ) → (reading m ≡ refused n p) ↔ Wrong m n p
+wrong-exactly m n p = (λ e. go e (verdict m), wrong-refused)
+  where
+    go : reading m ≡ refused n p → Verdict m → Wrong m n p
+    go e (wrong {n = k} w) =
+        let f = sym (wrong-refused w) ∙ e in
+        subst (λ i. Wrong m i p) (ap (λ x. x .refusal) f) (subst (Wrong m k) (ap (λ x. x .place) f) w)
+    go e (right {r = r} l f) = true-false (sym (sound m r f .0) ∙ (ap (λ x. validRecord (x .«record»)) (sym f ∙ e) ∙ blank-invalid))
+
+-- "for 1 the number 4,096"
+pub too-long : (m : List ℕ) → 4096 < length m → reading m ≡ refused 1 4096
+too-long m h = wrong-refused (tooLong h)
+
+-- so it is wrong in one way at most
+pub wrong-one : (m : List ℕ) {n k p q : ℕ} → Wrong m n p → Wrong m k q → (n ≡ k) × (p ≡ q)
+wrong-one m v w = let e = sym (wrong-refused v) ∙ wrong-refused w in (ap (λ x. x .refusal) e, ap (λ x. x .place) e)
+
+-- every message has at most 4,096 bytes and tells a valid record, or it is wrong
+pub told-or-wrong : (m : List ℕ) → (Told m × (length m ≤ 4096)) ⊎ ((n : ℕ) × (p : ℕ) × Wrong m n p)
+told-or-wrong m = go (verdict m)
+  where
+    go : Verdict m → (Told m × (length m ≤ 4096)) ⊎ ((n : ℕ) × (p : ℕ) × Wrong m n p)
+    go (wrong {n = n} {p = p} w) = inr (n, p, w)
+    go (right l f) = inl (exactly m l .0 (ap (λ x. x .refusal) f), l)
+
+-- and never both
+pub told-not-wrong : (m : List ℕ) {n p : ℕ} → length m ≤ 4096 → Told m → Wrong m n p → ⊥
+told-not-wrong m l t w =
+    let f = sym (complete m (t .tells) (t .valid) (t .typed) l) ∙ wrong-refused w in
+    true-false (sym (t .valid) ∙ (ap (λ x. validRecord (x .«record»)) f ∙ blank-invalid))

@@ -12,12 +12,13 @@ ghost use Rattle.record.specs.Notice.{noticeText};
 ghost use Rattle.notice.specs.Writing.{Wrote};
 ghost use Rattle.notice.specs.Rewriting.{Rewrote};
 ghost use Rattle.notice.specs.Reading.{reading};
+ghost use Rattle.notice.specs.Code.Below.{Opened, DisagreesAt};
 use body::read_rows;
 use front::read_front;
 use record::Reading;
 use record::Record;
 use record::accepted;
-use record::last_refusal;
+use record::mismatch;
 use record::put_notice;
 use record::refused;
 use record::valid_record;
@@ -29,6 +30,8 @@ use sameness::same_language;
 use sameness::same_rows;
 use sameness::same_title;
 use text::LONGEST;
+use text::first_line;
+use text::lines_size;
 use text::place;
 use text::refusal;
 
@@ -41,31 +44,54 @@ pub struct Written {
 
 // ---- Reading
 
+// Where lines that disagree are told to be wrong: 10 at the serial of line 4, 11 at line 5, 12 at the time of line 3. The lines are found anew,
+// since only a refused message needs this. They were read, so the serial is the last four bytes of its line, and the time the last eight.
+fn disagreement_place(message: &[u8], refusal: u8) -> usize
+    requires { ⌜ Opened (now message) ⌝ }
+    ensures { λ r. ⌜ DisagreesAt (now (message .entry)) refusal r ⌝ }
+{
+    if refusal == refusal::AERODROMES_DIFFER {
+        return lines_size(message, 4);
+    }
+    if refusal == refusal::SERIALS_DIFFER {
+        let start = lines_size(message, 3);
+        let line = first_line(&message[start..]);
+        return start + (line.size - 4);
+    }
+    let start = lines_size(message, 2);
+    let line = first_line(&message[start..]);
+    start + (line.size - 8)
+}
+
 // Reads a message: 1 first, then line by line, where the first line that does not fit decides; 10, 11, 12 at the end. The parts meet here, so that
 // none is handed on from answer to answer.
 pub fn read(message: &[u8]) -> Reading
     ensures { λ r. ⌜ r ≡ reading (now (message .entry)) ⌝ }
 {
     if LONGEST < message.len() {
-        return refused(refusal::TOO_LONG);
+        return refused(refusal::TOO_LONG, LONGEST);
     }
     let opening = read_front(message);
     if opening.refusal != 0 {
-        return refused(opening.refusal);
+        return refused(opening.refusal, opening.place);
     }
     let front = opening.front;
     let at = opening.next;
     let below = &message[at..];
     let block = read_rows(below);
     if block.refusal != 0 {
-        return refused(block.refusal);
+        return refused(block.refusal, at + block.place);
     }
     let rows = block.rows;
     let next = place(below, block.next);
     let remarks = read_remarks(block.closed, &below[next..]);
-    let refusal = last_refusal(front, rows, remarks.refusal);
+    if remarks.refusal != 0 {
+        return refused(remarks.refusal, at + (next + remarks.place));
+    }
+    let refusal = mismatch(front, rows);
     if refusal != 0 {
-        return refused(refusal);
+        let told = disagreement_place(message, refusal);
+        return refused(refusal, told);
     }
     accepted(front, rows, remarks)
 }

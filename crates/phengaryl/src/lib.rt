@@ -4,7 +4,7 @@ ghost use mathlib.Core.Path.{_≡_};
 ghost use Rattle.text.specs.Put.{Put};
 ghost use Rattle.surface.specs.Assess.{assessing};
 ghost use Rattle.row.specs.Agreement.{agreement};
-ghost use Rattle.rowtext.specs.Reading.{wholeRow, rowAnswer};
+ghost use Rattle.rowtext.specs.Reading.{findRow, rowAnswer};
 ghost use Rattle.rowtext.specs.Writing.{rowText, WroteRow};
 ghost use Rattle.notice.specs.Reading.{reading};
 ghost use Rattle.notice.specs.Writing.{Wrote};
@@ -107,10 +107,10 @@ pub extern "C" fn phengaryl_disagreeing(row: Row) -> Agreement
     disagreeing(row)
 }
 
-// The row of a text, or 5.
+// The row of a text, or the number and the place of the group at fault.
 #[no_mangle]
 pub extern "C" fn phengaryl_read_row(text: &[u8]) -> RowRead
-    ensures { λ r. ⌜ r ≡ rowAnswer (wholeRow (now (text .entry))) ⌝ }
+    ensures { λ r. ⌜ r ≡ rowAnswer (now (text .entry)) (findRow (now (text .entry))) ⌝ }
 {
     read_row(text)
 }

@@ -10,14 +10,13 @@ use Rattle.text.specs.Piece.{bytes}
 use Rattle.runway.specs.Time.{later}
 use Rattle.row.specs.Row.{blankRow}
 use Rattle.items.specs.Awareness.{blankItem}
-use Rattle.body.specs.Rows.{latestOf, latestFrom, latest}
+use Rattle.body.specs.Rows.{rowsOf, latestOf, latestFrom, latest}
 use Rattle.record.specs.Record.{blankRecord}
-use Rattle.record.specs.Answer.{mismatch}
 use Rattle.body.specs.Rows as Rows
 use Rattle.body.specs.declared.Rows.{Rows}
 use Rattle.front.specs.declared.Front.{Front}
 use Rattle.front.specs.Code.Front.{blankFront}
-use Rattle.record.specs.Code.Fitted.{partsMismatch, lastRefusal}
+use Rattle.record.specs.Code.Fitted.{mismatch}
 
 -- parts that fit, each by itself: a front with these serials, aerodrome and time, over a row of 01120640
 abbrev front : ℕ → ℕ → String → ℕ → Front
@@ -34,12 +33,10 @@ abbrev one : Rows
 one = Rows.makeRows (record { time = 1120640; number = 7; side = 0; thirds = blankRow .thirds; width = 0 } ∷ [])
 
 pub record Parts : Type 0 where
-  agree : partsMismatch (front 7 7 "XQAA" 1120640) one ≡ 0
-  serials : map (λ n. partsMismatch (front 7 n "XQBB" 1120610) one) (6 ∷ 8 ∷ []) ≡ 10 ∷ 10 ∷ []
-  aerodromes : partsMismatch (front 7 7 "XQBB" 1120610) one ≡ 11
-  times : map (λ t. partsMismatch (front 7 7 "XQAA" t) one) (1120639 ∷ 1120641 ∷ []) ≡ 12 ∷ 12 ∷ []
-  -- the refusal of what stands below the rows comes first
-  first : map (lastRefusal (front 7 8 "XQAA" 1120640) one) (0 ∷ 1 ∷ 9 ∷ []) ≡ 10 ∷ 1 ∷ 9 ∷ []
+  agree : mismatch (front 7 7 "XQAA" 1120640) (rowsOf one) ≡ 0
+  serials : map (λ n. mismatch (front 7 n "XQBB" 1120610) (rowsOf one)) (6 ∷ 8 ∷ []) ≡ 10 ∷ 10 ∷ []
+  aerodromes : mismatch (front 7 7 "XQBB" 1120610) (rowsOf one) ≡ 11
+  times : map (λ t. mismatch (front 7 7 "XQAA" t) (rowsOf one)) (1120639 ∷ 1120641 ∷ []) ≡ 12 ∷ 12 ∷ []
   -- "blank means all zero"
   blank : blankRecord ≡ record {
     addresses = record { priority = 0; count = 0; letters = replicate 64 0 };
@@ -51,5 +48,5 @@ pub record Parts : Type 0 where
   }
 
 pub parts : Parts
-unfolding _and_ latestOf latestFrom latest later mismatch lastRefusal
-parts = record { agree = refl; serials = refl; aerodromes = refl; times = refl; first = refl; blank = refl }
+unfolding _and_ latestOf latestFrom latest later mismatch
+parts = record { agree = refl; serials = refl; aerodromes = refl; times = refl; blank = refl }

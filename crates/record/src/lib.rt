@@ -3,12 +3,12 @@
 ghost use mathlib.Core.Path.{_≡_};
 ghost use Rattle.text.specs.Choice.{_and_};
 ghost use Rattle.text.specs.Put.{Put};
-ghost use Rattle.body.specs.Rows.{validRows};
+ghost use Rattle.body.specs.Rows.{rowsOf, validRows};
 ghost use Rattle.items.specs.Parts.{holdsItems, holdsLanguage};
 ghost use Rattle.record.specs.Record.{blankRecord, validRecord};
 ghost use Rattle.record.specs.Notice.{noticeText};
 ghost use Rattle.record.specs.Answer.{accepted, refused};
-ghost use Rattle.record.specs.Code.Fitted.{partsMismatch, lastRefusal, recordOf};
+ghost use Rattle.record.specs.Code.Fitted.{mismatch, recordOf};
 use body::Rows;
 use body::latest_time;
 use body::put_rows;
@@ -45,18 +45,19 @@ pub struct Record {
     pub language: Language,
 }
 
-// A refusal number, 0 for accepted, and the record: blank where it is refused.
+// A refusal number and the place of what is wrong, 0 and 0 for accepted, and the record: blank where it is refused.
 #[repr(C)]
 pub struct Reading {
     pub refusal: u8,
+    pub place: usize,
     pub record: Record,
 }
 
 // ---- The answer to a message
 
 // 10, 11, 12 in that order, or 0 where the lines agree.
-fn mismatch(front: Front, rows: Rows) -> u8
-    ensures { λ r. ⌜ r ≡ partsMismatch front rows ⌝ }
+pub fn mismatch(front: Front, rows: Rows) -> u8
+    ensures { λ r. ⌜ r ≡ mismatch front (rowsOf rows) ⌝ }
 {
     let title = front.title;
     if title.serial as u32 != front.serial {
@@ -81,7 +82,7 @@ fn blank_record() -> Record
     let filing = front.filing;
     let title = front.title;
     let row = blank_row();
-    let none = no_remarks(0);
+    let none = no_remarks(0, 0);
     let items = none.items;
     let language = none.language;
     Record {
@@ -97,21 +98,15 @@ fn blank_record() -> Record
     }
 }
 
-pub fn refused(refusal: u8) -> Reading
-    ensures { λ r. ⌜ r ≡ refused refusal ⌝ }
+pub fn refused(refusal: u8, place: usize) -> Reading
+    ensures { λ r. ⌜ r ≡ refused refusal place ⌝ }
 {
     let record = blank_record();
-    Reading { refusal, record }
-}
-
-// The refusal of a message whose front and rows fit: that of its remarks first, then 10, 11, 12.
-pub fn last_refusal(front: Front, rows: Rows, remarks: u8) -> u8
-    ensures { λ r. ⌜ r ≡ lastRefusal front rows remarks ⌝ }
-{
-    if remarks != 0 {
-        return remarks;
+    Reading {
+        refusal,
+        place,
+        record,
     }
-    mismatch(front, rows)
 }
 
 // The answer to a message whose parts fit and agree.
@@ -125,6 +120,7 @@ pub fn accepted(front: Front, rows: Rows, remarks: RemarksRead) -> Reading
     let language = remarks.language;
     Reading {
         refusal: 0,
+        place: 0,
         record: Record {
             addresses,
             filing,

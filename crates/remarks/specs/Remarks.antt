@@ -1,10 +1,10 @@
 -- Below the rows: an empty line, the awareness line and the plain language, if there is any of them.
 use Prim.Native.Nat.{ℕ}
-use mathlib.Core.List.{List, [], _∷_}
+use mathlib.Core.List.{List, [], _∷_, _++_}
 use Rattle.text.specs.Choice.{_and_, isEmpty}
 use mathlib.Core.Bool.{cond}
 use Rattle.text.specs.Piece.{Piece, verbatim}
-use Rattle.text.specs.Lines.{closed, lineText}
+use Rattle.text.specs.Lines.{Cut, cut, closed, lineText}
 use Rattle.items.specs.declared.Item.{Item}
 use Rattle.items.specs.Awareness.{awarenessPieces, wholeAwareness}
 use Rattle.items.specs.Language.{wholeLanguage}
@@ -30,14 +30,15 @@ pub record Remarks : Type 0 where
 abbrev pub remarks : List Item → List ℕ → Remarks
 remarks is l = record { items = is; language = l }
 
--- "plain language lacking `)` gives 4 at once"; 9 where it does not fit
-abbrev pub readLanguageLine : List Item → List (List ℕ) → Out Remarks
-readLanguageLine is [] = refuse outline
-readLanguageLine is (l ∷ ls) = cond (closed l) (fit wrongLanguage (wholeLanguage (lineText l)) (λ p. atEnd ls (remarks is p))) (refuse outline)
+-- "plain language lacking `)` gives 4 at once", "for a missing line or `)` the message's length"; 9 where it does not fit, at "the line's first byte"
+abbrev pub readLanguageLine : List Item → List Cut → Out Remarks
+readLanguageLine is [] = refuse outline []
+readLanguageLine is (cut l behind ∷ cs) =
+    cond (closed l) (fit wrongLanguage (l ++ behind) (wholeLanguage (lineText l)) (λ p _. atEnd cs (remarks is p))) (refuse outline [])
 
--- the awareness line: 8, also where it is "empty before `)`"; a missing line is 4
+-- the awareness line: 8 at its first byte, also where it is "empty before `)`"; a missing line is 4
 abbrev pub readRemarks : After → Out Remarks
 readRemarks finished = taken (remarks [] [])
-readRemarks (more []) = refuse outline
-readRemarks (more (l ∷ ls)) = fit wrongItems (wholeAwareness (lineText l)) (λ is.
-    cond (closed l) (cond (isEmpty is) (refuse wrongItems) (atEnd ls (remarks is []))) (readLanguageLine is ls))
+readRemarks (more []) = refuse outline []
+readRemarks (more (cut l behind ∷ cs)) = fit wrongItems (l ++ behind) (wholeAwareness (lineText l)) (λ is _.
+    cond (closed l) (cond (isEmpty is) (refuse wrongItems (l ++ behind)) (atEnd cs (remarks is []))) (readLanguageLine is cs))

@@ -31,42 +31,46 @@ drift fits′ = record { fits = fits′; count = drifting .count; items = drifti
 
 -- plain language below it
 abbrev said : List ℕ → RemarksRead
-said l = record { refusal = 0; items = drifting; language = makeLanguage l }
+said l = record { refusal = 0; place = 0; items = drifting; language = makeLanguage l }
 
 pub record Answers : Type 0 where
-  no-remarks : noRemarks 8 ≡ record {
+  no-remarks : noRemarks 8 7 ≡ record {
     refusal = 8;
+    place = 7;
     items = record { count = 0; items = replicate 32 (bareItem 0) };
     language =
         record { length = 0; bytes = replicate 400 0 };
   }
-  refused : remarksAnswer (refuse 9) ≡ noRemarks 9
-  read : remarksAnswer (taken (remarks (bareItem letterJ ∷ []) (bytes "A.")))
+  refused : remarksAnswer (bytes "ABC") (refuse 9 (bytes "C")) ≡ noRemarks 9 2
+  read : remarksAnswer (bytes "ABC") (taken (remarks (bareItem letterJ ∷ []) (bytes "A.")))
       ≡ record {
         refusal = 0;
+        place = 0;
         items = record { count = 1; items = bareItem letterJ ∷ replicate 31 (bareItem 0) };
         language =
             record { length = 2; bytes = bytes "A." ++ replicate 398 0 };
       }
   -- 4 where the awareness line, or that of plain language, is missing
-  no-items : readRemarks (more []) ≡ refuse 4
-  no-language : readLanguageLine [] [] ≡ refuse 4
+  no-items : readRemarks (more []) ≡ refuse 4 []
+  no-language : readLanguageLine [] [] ≡ refuse 4 []
   -- "bytes after the end": 4
   ends : map ending (0 ∷ 1 ∷ 2 ∷ []) ≡ 0 ∷ 4 ∷ 4 ∷ []
-  -- the refusal that left the loop, or what was read
-  last : map (λ n. lastAnswer n drifting (bytes "A.")) (0 ∷ 1 ∷ 9 ∷ []) ≡ said (bytes "A.") ∷ noRemarks 1 ∷ noRemarks 9 ∷ []
-  -- 4 where the line is missing or lacks `)`, 9 where it does not fit
-  languages : map (λ s. languageStep drifting (bytes s)) ("" ∷ ")" ∷ "A.)" ∷ "A." ∷ "a.)" ∷ [])
-      ≡ noRemarks 4 ∷ noRemarks 9 ∷ said (bytes "A.") ∷ noRemarks 4 ∷ noRemarks 9 ∷ []
-  after : map (languageStep drifting) ((bytes "A.)" ++ (10 ∷ [])) ∷ (bytes "A.)" ++ (10 ∷ 65 ∷ [])) ∷ []) ≡ said (bytes "A.") ∷ noRemarks 4 ∷ []
+  -- the refusal that left the loop and its place, or what was read
+  last : map (λ n. lastAnswer n 7 drifting (bytes "A.")) (0 ∷ 1 ∷ 9 ∷ []) ≡ said (bytes "A.") ∷ noRemarks 1 7 ∷ noRemarks 9 7 ∷ []
+  -- 4 at the end where the line is missing or lacks `)`, 9 at its first byte where it does not fit
+  languages : map (λ s. languageStep (bytes "B.\n" ++ bytes s) drifting (bytes s)) ("" ∷ ")" ∷ "A.)" ∷ "A." ∷ "a.)" ∷ [])
+      ≡ noRemarks 4 3 ∷ noRemarks 9 3 ∷ said (bytes "A.") ∷ noRemarks 4 5 ∷ noRemarks 9 3 ∷ []
+  after : map (λ s. languageStep (bytes "B.\n" ++ bytes s) drifting (bytes s)) ("A.)\n" ∷ "A.)\nA" ∷ []) ≡ said (bytes "A.") ∷ noRemarks 4 7 ∷ []
   -- 8 where the items do not fit, whatever follows, and where the awareness line is "empty before `)`"
-  open-line : map (λ fits. behindItems (drift fits) false (bytes "A.)")) (true ∷ false ∷ []) ≡ said (bytes "A.") ∷ noRemarks 8 ∷ []
-  closed-line : map (behindItems (drift true) true) ([] ∷ (65 ∷ []) ∷ []) ≡ said [] ∷ noRemarks 4 ∷ []
-  empty : behindItems (itemsAnswer (got [] [])) true [] ≡ noRemarks 8
+  open-line : map (λ fits. behindItems (bytes "DRIFT\nA.)") (bytes "DRIFT\nA.)") (drift fits) false (bytes "A.)")) (true ∷ false ∷ [])
+      ≡ said (bytes "A.") ∷ noRemarks 8 0 ∷ []
+  closed-line : map (λ s. behindItems (bytes "DRIFT)\n" ++ s) (bytes "DRIFT)\n" ++ s) (drift true) true s) ([] ∷ (65 ∷ []) ∷ []) ≡ said [] ∷ noRemarks 4 7 ∷ []
+  empty : behindItems (bytes "\n)") (bytes ")") (itemsAnswer (got [] [])) true [] ≡ noRemarks 8 1
   -- the awareness line: missing, empty before `)`, and empty above plain language
-  first : map itemsStep ([] ∷ bytes ")" ∷ (10 ∷ bytes "A.)") ∷ []) ≡ noRemarks 4 ∷ noRemarks 8 ∷ lastAnswer 0 (makeItems []) (bytes "A.") ∷ []
+  first : map (λ s. itemsStep (bytes s) (bytes s)) ("" ∷ ")" ∷ "\nA.)" ∷ []) ≡ noRemarks 4 0 ∷ noRemarks 8 0 ∷ lastAnswer 0 0 (makeItems []) (bytes "A.") ∷ []
   -- and then the plain language
-  steps : map (λ below. nextStep below drifting (bytes "A.)")) (true ∷ false ∷ []) ≡ said (bytes "A.") ∷ itemsStep (bytes "A.)") ∷ []
+  steps : map (λ below. nextStep (bytes "A.)") below drifting (bytes "A.)")) (true ∷ false ∷ []) ≡ said (bytes "A.") ∷ itemsStep (bytes "A.)")
+      (bytes "A.)") ∷ []
 
 pub answers : Answers
 unfolding _and_ isMark endSize lineSize lineStep closed allButLast lastIs validLanguage wholeAwareness readAwareness ending

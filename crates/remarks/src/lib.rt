@@ -6,7 +6,7 @@ ghost use lib.ListN.{length};
 ghost use Rattle.text.specs.Choice.{_and_, isEmpty};
 ghost use mathlib.Core.Bool.{cond};
 ghost use Rattle.text.specs.Piece.{canonical, verbatim};
-ghost use Rattle.text.specs.Lines.{lines, lineText, under};
+ghost use Rattle.text.specs.Lines.{cuts, lineText, under};
 ghost use Rattle.text.specs.Put.{Put};
 ghost use Rattle.items.specs.Awareness.{awarenessPieces};
 ghost use Rattle.text.specs.Out.{finished, more};
@@ -80,9 +80,10 @@ pub fn put_remarks(out: &mut [u8], at: usize, items: Items, language: Language) 
     language_under(out, behind, language)
 }
 
-// The items and the plain language below the rows. A refused reading is blank.
+// The items and the plain language below the rows. A refused reading is blank but for its place, counted from where they start.
 pub struct RemarksRead {
     pub refusal: u8,
+    pub place: usize,
     pub items: Items,
     pub language: Language,
 }
@@ -99,12 +100,13 @@ fn text_size(line: &[u8]) -> usize
 }
 
 // Nothing below the rows, or a refusal.
-pub fn no_remarks(refusal: u8) -> RemarksRead
-    ensures { λ r. ⌜ r ≡ noRemarks refusal ⌝ }
+pub fn no_remarks(refusal: u8, place: usize) -> RemarksRead
+    ensures { λ r. ⌜ r ≡ noRemarks refusal place ⌝ }
 {
     let i = blank_item();
     RemarksRead {
         refusal,
+        place,
         items: Items {
             count: 0,
             items: [i; 32],
@@ -141,11 +143,12 @@ fn kept_language(text: &[u8]) -> Language
 
 // What stands behind the rows: nothing where `)` closed them, else `m` below the empty line that ended them, line by line: the awareness line, and
 // the plain language unless `)` closed that. The first line that does not fit decides. Where no line follows, both are empty, and that gives 4.
+// A wrong line is told at its first byte, a missing line or `)` at the end, and bytes after the end at the first of them.
 pub fn read_remarks(closed: bool, m: &[u8]) -> RemarksRead
-    ensures { λ r. ⌜ r ≡ remarksAnswer (readRemarks (cond closed finished (more (lines (now (m .entry)))))) ⌝ }
+    ensures { λ r. ⌜ r ≡ remarksAnswer (now (m .entry)) (readRemarks (cond closed finished (more (cuts (now (m .entry)))))) ⌝ }
 {
     if closed {
-        return no_remarks(0);
+        return no_remarks(0, 0);
     }
     let blank = blank_item();
     let mut items = [blank; 32];
@@ -154,8 +157,10 @@ pub fn read_remarks(closed: bool, m: &[u8]) -> RemarksRead
     let mut below = false;
     let mut at: usize = 0;
     let mut size: usize = 0;
+    let mut place: usize = 0;
     let refusal: u8 = 'lines: loop {
         let start = at;
+        place = start;
         let line = first_line(&m[start..]);
         let end = start + line.size;
         let next = start + line.next;
@@ -163,12 +168,14 @@ pub fn read_remarks(closed: bool, m: &[u8]) -> RemarksRead
         let stop = start + text;
         if below {
             if end <= stop {
+                place = m.len();
                 break 'lines refusal::OUTLINE;
             }
             if !valid_language(&m[start..stop]) {
                 break 'lines refusal::WRONG_LANGUAGE;
             }
             size = text;
+            place = next;
             break 'lines ending(m.len() - next);
         }
         let read = read_awareness(&m[start..stop]);
@@ -181,18 +188,20 @@ pub fn read_remarks(closed: bool, m: &[u8]) -> RemarksRead
             if count == 0 {
                 break 'lines refusal::WRONG_ITEMS;
             }
+            place = next;
             break 'lines ending(m.len() - next);
         }
         at = next;
         below = true;
     };
     if refusal != 0 {
-        return no_remarks(refusal);
+        return no_remarks(refusal, place);
     }
     let end = at + size;
     let language = kept_language(&m[at..end]);
     RemarksRead {
         refusal: 0,
+        place: 0,
         items: Items { count, items },
         language,
     }

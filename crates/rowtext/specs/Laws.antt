@@ -1,3 +1,11 @@
+pub mod Whole
 pub mod Tail
 pub mod Row
+pub mod Valid
+pub mod Groups
+pub mod Same
+pub mod Faults
+pub mod Fault
 pub mod Sizes
+pub mod Short
+pub mod Filling

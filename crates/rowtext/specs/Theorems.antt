@@ -2,20 +2,29 @@
 use Prim.Native.Nat.{ℕ, _≤_}
 use mathlib.Core.Path.{_≡_, refl, sym, subst, _∙_, ap}
 use mathlib.Core.List.{List, []}
-use mathlib.Core.Bool.{Bool, true, false}
+use mathlib.Core.Bool.{cond, Bool, true, false}
+use mathlib.Core.Logic.{_↔_}
 use native.Mathlib.Omega.{arith}
-use lib.ListN.{length}
-use borrow.Author.Tests.{le-leb, lt-leb}
+use lib.Dec.{leb}
+use lib.ListN.{length, drop}
+use borrow.Author.Tests.{le-leb, lt-leb, leb-true, ne-eqb}
+use Rattle.text.specs.Choice.{_and_}
 use Rattle.text.specs.Piece.{Typing, canonical}
-use Rattle.text.specs.Read.{Got, misfit, got}
-use Rattle.text.specs.Laws.Base.{carry}
+use Rattle.text.specs.Out.{Out, refuse, taken, place}
+use Rattle.text.specs.Laws.Base.{spaceNext, and-1, and-2}
+use Rattle.text.specs.Laws.Left.{left-place}
 use Rattle.text.specs.Laws.Lines.{whole-sound, whole-complete}
+use Rattle.text.specs.Laws.Out.{Within, stopped, Any, no-refuse, took}
 use Rattle.text.specs.Laws.Typing.{canonical-typed}
-use Rattle.row.specs.Row.{validRow}
+use Rattle.row.specs.Row.{blankRow, validRow}
 use Rattle.rowtext.specs.Text.{rowPieces}
-use Rattle.rowtext.specs.Reading.{wholeRow, rowAnswer}
+use Rattle.rowtext.specs.Reading.{findRow, rowAnswer}
+use Rattle.rowtext.specs.Fault.{Fault}
 use Rattle.rowtext.specs.Writing.{rowText, WroteRow}
 use Rattle.rowtext.specs.Laws.Row.{row-laws}
+use Rattle.rowtext.specs.Laws.Same.{row-taken, row-found}
+use Rattle.rowtext.specs.Laws.Faults.{isRowNumber, row-within}
+use Rattle.rowtext.specs.Laws.Fault.{row-fault, fault-row, time-fault, group-fault}
 use Rattle.rowtext.specs.Laws.Sizes.{text-size}
 use Rattle.row.specs.declared.Row.{Row}
 use Rattle.rowtext.specs.declared.RowRead.{RowRead}
@@ -25,54 +34,118 @@ pub record Tells (line : List ℕ) (r : Row) : Type 0 where
   pub valid : validRow r ≡ true
   pub typing : Typing (rowPieces r) line
 
-abbrev taken : Row → RowRead
-taken r = record { refusal = 0; row = r }
-
-abbrev refused : RowRead
-refused = rowAnswer misfit
-
 -- a line that is read tells the row that is read
-pub row-sound : (line : List ℕ) {r : Row} {k : List ℕ} → wholeRow line ≡ got r k → Tells line r
+pub row-sound : (line : List ℕ) {r : Row} → findRow line ≡ taken r → Tells line r
 row-sound line e =
-    let x = whole-sound row-laws {m = line} e in
+    let x = whole-sound row-laws {m = line} (row-taken line e) in
     record { valid = x .0; typing = x .1 }
 
 -- a line that tells a row is read as that row
-pub row-complete : (line : List ℕ) (r : Row) → Tells line r → wholeRow line ≡ got r []
-row-complete line r t = whole-complete row-laws r (t .valid) (t .typing)
+pub row-complete : (line : List ℕ) (r : Row) → Tells line r → findRow line ≡ taken r
+row-complete line r t = row-found line (whole-complete row-laws r (t .valid) (t .typing))
+
+-- so a line has no fault exactly if it is a row, and is that row
+pub row-exactly : (line : List ℕ) (r : Row) → (findRow line ≡ taken r) ↔ Tells line r
+row-exactly line r = (row-sound line, row-complete line r)
+
+-- and it is refused by a number, with this left of it, exactly if it has that fault there
+pub fault-exactly : (line : List ℕ) (n : ℕ) (left : List ℕ) → (findRow line ≡ refuse n left) ↔ Fault line n left
+fault-exactly line n left = (row-fault line, fault-row line)
 
 -- a line tells one row at most
 pub row-one : (line : List ℕ) (r s : Row) → Tells line r → Tells line s → r ≡ s
-row-one line r s t u = let e = sym (row-complete line r t) ∙ row-complete line s u in carry (λ (q : Row) _. r ≡ q) e refl
+row-one line r s t u = took (λ q. r ≡ q) (sym (row-complete line r t) ∙ row-complete line s u) refl
+
+-- has one fault at most
+pub fault-one : (line : List ℕ) {n k : ℕ} {left rest : List ℕ} → Fault line n left → Fault line k rest → (n ≡ k) × (left ≡ rest)
+fault-one line f g =
+    let e : _≡_ {A = Out Row} (refuse _ _) (refuse _ _) = sym (fault-row line f) ∙ fault-row line g in
+    (cc, cc)
+
+-- and never both
+pub row-no-fault : (line : List ℕ) {r : Row} {n : ℕ} {left : List ℕ} → Tells line r → Fault line n left → ⊥
+row-no-fault line {r} t f = no-refuse (sym (fault-row line f) ∙ row-complete line r t)
+
+-- the answers to a line: the row, or the refusal with its place and the blank row
+abbrev accepted : Row → RowRead
+accepted r = record { refusal = 0; place = 0; row = r }
+
+abbrev refused : List ℕ → ℕ → List ℕ → RowRead
+refused line n left = record { refusal = n; place = place line left; row = blankRow }
+
+-- the answer says that the line tells this row, or that it has this fault there
+pub data Answers (line : List ℕ) : RowRead → Type 0 where
+  row : {r : Row} → Tells line r → Answers line (accepted r)
+  fault : {n : ℕ} {left : List ℕ} → Fault line n left → Answers line (refused line n left)
+
+-- the answer that is given is right
+pub row-answers : (line : List ℕ) → Answers line (rowAnswer line (findRow line))
+row-answers line = go (findRow line) refl
+  where
+    go : (o : Out Row) → findRow line ≡ o → Answers line (rowAnswer line o)
+    go (refuse n left) e = fault (row-fault line e)
+    go (taken r) e = row (row-sound line e)
+
+-- and no other is: this promise leaves no choice
+pub answers-one : (line : List ℕ) {a : RowRead} → Answers line a → a ≡ rowAnswer line (findRow line)
+answers-one line (row {r = r} t) = rw (row-complete line r t)
+answers-one line (fault f) = rw (fault-row line f)
+
+-- the number of a fault is 5 or 24 to 28; its place is one of the line, and what is left of the line starts there
+pub record Stands (line : List ℕ) (n : ℕ) (left : List ℕ) : Type 0 where
+  pub number : (n ≡ 5 → ⊥) → (24 ≤ n) × (n ≤ 28)
+  pub within : place line left ≤ length line
+  pub there : drop (place line left) line ≡ left
+  -- 5 stands at the row's first byte, every other at the first byte of a group or at the row's end: at no space
+  pub first : n ≡ 5 → place line left ≡ 0
+  pub parts : (n ≡ 5 → ⊥) → spaceNext left ≡ false
+
+row-range : (n : ℕ) → isRowNumber n ≡ true → (n ≡ 5 → ⊥) → (24 ≤ n) × (n ≤ 28)
+unfolding isRowNumber
+row-range n h other =
+    let k = subst (λ b. cond b true (leb 24 n and leb n 28) ≡ true) (ne-eqb n 5 other) h in
+    (leb-true 24 n (and-1 (leb 24 n) (leb n 28) k), leb-true n 28 (and-2 (leb 24 n) (leb n 28) k))
+
+pub row-stands : (line : List ℕ) {n : ℕ} {left : List ℕ} → Fault line n left → Stands line n left
+row-stands line {n} {left} f = go (subst (Within isRowNumber line Any) (fault-row line f) (row-within line))
+  where
+    go : Within isRowNumber line {A = Row} Any (refuse n left) → Stands line n left
+    go (stopped h l) = record {
+      number = row-range n h;
+      within = omega arith;
+      there = left-place l;
+      first = λ z. let e = ap length (time-fault line f z) in omega arith;
+      parts = group-fault line f;
+    }
 
 -- a line is read as exactly the row that it tells, and is refused exactly if it tells none
 pub record Exactly (line : List ℕ) : Type 0 where
-  pub read : {r : Row} → rowAnswer (wholeRow line) ≡ taken r → Tells line r
-  pub told : {r : Row} → Tells line r → rowAnswer (wholeRow line) ≡ taken r
-  pub none : rowAnswer (wholeRow line) ≡ refused → (r : Row) → Tells line r → ⊥
-  pub else : ((r : Row) → Tells line r → ⊥) → rowAnswer (wholeRow line) ≡ refused
+  pub read : {r : Row} → rowAnswer line (findRow line) ≡ accepted r → Tells line r
+  pub told : {r : Row} → Tells line r → rowAnswer line (findRow line) ≡ accepted r
+  pub none : (rowAnswer line (findRow line) .refusal ≡ 0 → ⊥) → (r : Row) → Tells line r → ⊥
+  pub else : ((r : Row) → Tells line r → ⊥) → rowAnswer line (findRow line) .refusal ≡ 0 → ⊥
 
 pub exactly : (line : List ℕ) → Exactly line
 exactly line = record {
-  read = λ {r} e. was-read (wholeRow line) refl e;
-  told = λ {r} t. ap rowAnswer (row-complete line r t);
-  none = λ e r t. differ (sym e ∙ ap rowAnswer (row-complete line r t));
-  else = λ untold. was-none (wholeRow line) refl untold;
+  read = λ {r} e. was-read (findRow line) refl e;
+  told = λ {r} t. ap (rowAnswer line) (row-complete line r t);
+  none = λ off r t. off (ap (λ o. rowAnswer line o .refusal) (row-complete line r t));
+  else = λ untold. was-none (findRow line) refl untold;
 }
   where
-    differ : {r : Row} → refused ≡ taken r → ⊥
-    differ e = let z : _≡_ {A = ℕ} 5 0 = ap (λ (a : RowRead). a .refusal) e in omega arith
+    numbered : {n : ℕ} {left : List ℕ} → findRow line ≡ refuse n left → n ≡ 0 → ⊥
+    numbered {n} e z = let k = row-stands line (row-fault line e) .number (omega arith) in omega arith
 
-    was-read : (g : Got Row) → wholeRow line ≡ g → {r : Row} → rowAnswer g ≡ taken r → Tells line r
-    was-read misfit q e = absurd (differ e)
-    was-read (got a k) q e = rw (ap (λ (a : RowRead). a .row) (sym e)) (row-sound line q)
+    was-read : (o : Out Row) → findRow line ≡ o → {r : Row} → rowAnswer line o ≡ accepted r → Tells line r
+    was-read (refuse n left) q e = absurd (numbered q (ap (λ (a : RowRead). a .refusal) e))
+    was-read (taken s) q e = rw (ap (λ (a : RowRead). a .row) (sym e)) (row-sound line q)
 
-    was-none : (g : Got Row) → wholeRow line ≡ g → ((r : Row) → Tells line r → ⊥) → rowAnswer g ≡ refused
-    was-none misfit q untold = refl
-    was-none (got a k) q untold = absurd (untold a (row-sound line q))
+    was-none : (o : Out Row) → findRow line ≡ o → ((r : Row) → Tells line r → ⊥) → rowAnswer line o .refusal ≡ 0 → ⊥
+    was-none (refuse n left) q untold = numbered q
+    was-none (taken s) q untold = absurd (untold s (row-sound line q))
 
 -- a written valid row reads back
-pub row-back : (r : Row) → validRow r ≡ true → wholeRow (rowText r) ≡ got r []
+pub row-back : (r : Row) → validRow r ≡ true → findRow (rowText r) ≡ taken r
 unfolding rowText
 row-back r h = rw h (row-complete (canonical (rowPieces r)) r (record { valid = h; typing = canonical-typed (rowPieces r) }))
 

@@ -84,7 +84,7 @@ fn is_deep(kind: u32) -> bool
     DRY_SNOW as u32 == kind
 }
 
-fn is_coverage(coverage: u8) -> bool
+pub fn is_coverage(coverage: u32) -> bool
     ensures { λ r. ⌜ r ≡ isCoverage coverage ⌝ }
 {
     if 25 == coverage {
@@ -100,13 +100,13 @@ fn is_coverage(coverage: u8) -> bool
 }
 
 // A coverage is a number only under a contaminant.
-fn valid_coverage(t: Third) -> bool
+pub fn valid_coverage(t: Third) -> bool
     ensures { λ r. ⌜ r ≡ validCoverage t ⌝ }
 {
     if t.coverage == NR {
         return true;
     }
-    if is_coverage(t.coverage) {
+    if is_coverage(t.coverage as u32) {
         return is_contaminant(t.description);
     }
     false
@@ -130,7 +130,7 @@ fn is_reported(description: u8, depth: u16) -> bool
 
 const GREATEST_DEPTH: u32 = 999;
 
-fn valid_depth(t: Third) -> bool
+pub fn valid_depth(t: Third) -> bool
     ensures { λ r. ⌜ r ≡ validDepth t ⌝ }
 {
     if t.depth == 0 {

@@ -1,7 +1,8 @@
 // A message: its number among the parts, its listing, whether it tells the same as the part before it, and what writing its record into a
-// buffer one byte too short answers.
+// buffer one byte too short answers, or where it went wrong.
 use crate::output::print;
 use crate::output::print_digits;
+use crate::output::print_place;
 use listing::list;
 use notice::read;
 use notice::same;
@@ -53,5 +54,9 @@ pub fn print_message(number: u32, message: &[u8], before: &[u8]) {
     if r.refusal == 0 {
         let record = r.record;
         print_short(record);
+        return;
     }
+    print(b"AT");
+    print_place(r.place);
+    print(b"\n");
 }

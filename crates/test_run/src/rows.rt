@@ -1,6 +1,7 @@
-// A row's text: the refusal, or 0, how many thirds disagree with Table 1, and the row's own text.
+// A row's text: the refusal and its place; or 0, how many thirds disagree with Table 1, and the row's own text.
 use crate::output::print;
 use crate::output::print_digits;
+use crate::output::print_place;
 use row::Row;
 use row::disagreeing;
 use rowtext::LONGEST_ROW;
@@ -26,14 +27,16 @@ fn print_taken(row: Row) {
 
 pub fn print_row(text: &[u8]) {
     if LONGEST < text.len() {
-        print(b"5\n");
+        print(b"05\n");
         return;
     }
     let r = read_row(text);
-    print_digits(1, r.refusal as u32);
+    print_digits(2, r.refusal as u32);
     if r.refusal == 0 {
         let row = r.row;
         print_taken(row);
+    } else {
+        print_place(r.place);
     }
     print(b"\n");
 }

@@ -17,7 +17,7 @@ lineThree = 3
 abbrev pub outline : ℕ
 outline = 4
 
--- "a row's own rules"
+-- "a row's own rules": of a row's groups, the time (request 2)
 abbrev pub noRow : ℕ
 noRow = 5
 
@@ -92,3 +92,23 @@ othersRunway = 22
 -- "no such desk"
 abbrev pub noDesk : ℕ
 noDesk = 23
+
+-- document 02, request 2: a row's "5 keeps the row's time; 24 runway"
+abbrev pub wrongRunway : ℕ
+wrongRunway = 24
+
+-- "25 codes"
+abbrev pub wrongCodes : ℕ
+wrongCodes = 25
+
+-- "26 coverage or depth, including a short row not allowed"
+abbrev pub wrongCoverageOrDepth : ℕ
+wrongCoverageOrDepth = 26
+
+-- "27 descriptions"
+abbrev pub wrongDescriptions : ℕ
+wrongDescriptions = 27
+
+-- "28 width or what follows"
+abbrev pub wrongWidth : ℕ
+wrongWidth = 28

@@ -9,8 +9,8 @@ use Rattle.text.specs.Choice.{_and_, isEmpty}
 use Rattle.text.specs.Piece.{byte, gap, loose, end, last, nrGroups, bytes, spell, words, verbatim, canonical, nrText}
 use Rattle.text.specs.Read.{misfit, got, skip, readText, readGap, readLoose, readMany, whole}
 use Rattle.text.specs.Numbers.{isDigit, readDigits, digits, number, readNumber}
-use Rattle.text.specs.Lines.{lines, endSize, lineSize, lineStep, linesSize, closed, allButLast, lineText, ended}
-use Rattle.text.specs.Out.{refuse, taken, atEnd}
+use Rattle.text.specs.Lines.{lines, cut, onward, cuts, endSize, lineSize, lineStep, linesSize, closed, allButLast, lineText, beyond, ended}
+use Rattle.text.specs.Out.{refuse, taken, place, atEnd}
 use Rattle.text.specs.Put.{told, farthest}
 use Rattle.text.specs.Arrays.{pad, slots, pastSlots, flat}
 
@@ -102,11 +102,16 @@ pub record Lined : Type 0 where
   pub texts : map lineText (bytes "A))" ∷ bytes ")" ∷ bytes ")A" ∷ []) ≡ bytes "A)" ∷ [] ∷ bytes ")A" ∷ []
   pub counted : map (λ n. linesSize n (65 ∷ 10 ∷ 66 ∷ 13 ∷ 10 ∷ 67 ∷ [])) (0 ∷ 1 ∷ 2 ∷ 3 ∷ 4 ∷ []) ≡ 0 ∷ 2 ∷ 5 ∷ 6 ∷ 6 ∷ []
   -- "bytes after the end": 4
-  pub behind : (atEnd {A = ℕ} [] 7 ≡ taken 7) × (atEnd {A = ℕ} ([] ∷ []) 7 ≡ refuse 4)
+  pub behind : (atEnd {A = ℕ} [] 7 ≡ taken 7) × (atEnd {A = ℕ} (cut [] (10 ∷ 65 ∷ []) ∷ []) 7 ≡ refuse 4 (10 ∷ 65 ∷ []))
+  -- each line with its place
+  pub cut-up : cuts (65 ∷ 10 ∷ 66 ∷ 13 ∷ 10 ∷ 13 ∷ 67 ∷ []) ≡ cut (65 ∷ []) (10 ∷ 66 ∷ 13 ∷ 10 ∷ 13 ∷ 67 ∷ []) ∷ cut (66 ∷ []) (13 ∷ 10 ∷ 13 ∷ 67 ∷ [])
+      ∷ cut (13 ∷ 67 ∷ []) [] ∷ []
+  pub placed : map (λ c. place (65 ∷ 10 ∷ 66 ∷ 13 ∷ 10 ∷ 67 ∷ []) (onward c)) (cuts (65 ∷ 10 ∷ 66 ∷ 13 ∷ 10 ∷ 67 ∷ [])) ≡ 0 ∷ 2 ∷ 5 ∷ []
+  pub beyond-text : map (λ l. beyond l (10 ∷ [])) (bytes "A)" ∷ bytes ")A" ∷ []) ≡ (41 ∷ 10 ∷ []) ∷ (10 ∷ []) ∷ []
   pub under : canonical (ended (words "A" ∷ words "B" ∷ [])) ≡ (65 ∷ 10 ∷ 66 ∷ 41 ∷ 10 ∷ [])
 
 pub lined : Lined
-unfolding lines endSize lineSize lineStep linesSize closed allButLast ended spell
+unfolding lines cuts endSize lineSize lineStep linesSize closed allButLast ended spell
 lined = record {
   none = refl;
   mixed = refl;
@@ -119,6 +124,9 @@ lined = record {
   texts = refl;
   counted = refl;
   behind = (refl, refl);
+  cut-up = refl;
+  placed = refl;
+  beyond-text = refl;
   under = refl;
 }
 

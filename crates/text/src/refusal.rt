@@ -12,7 +12,7 @@ pub const LINE_3: u8 = 3;
 // Line 4 or 5 is wrong, there is no row, a line or the closing `)` is missing, or something follows the end.
 pub const OUTLINE: u8 = 4;
 
-// A runway row breaks its own rules.
+// The time of a runway row; at the desk, a line that has no desk before its row, or no row.
 pub const NO_ROW: u8 = 5;
 
 // A ninth line that is not empty stands where only eight rows may.
@@ -68,3 +68,18 @@ pub const OTHERS_RUNWAY: u8 = 22;
 
 // There is no such desk.
 pub const NO_DESK: u8 = 23;
+
+// The runway of a row.
+pub const WRONG_RUNWAY: u8 = 24;
+
+// Its codes.
+pub const WRONG_CODES: u8 = 25;
+
+// Its coverages or depths: no such number, one that its description forbids, or a short row that is not allowed.
+pub const WRONG_COVERAGE_OR_DEPTH: u8 = 26;
+
+// Its descriptions.
+pub const WRONG_DESCRIPTIONS: u8 = 27;
+
+// Its width, or what follows.
+pub const WRONG_WIDTH: u8 = 28;

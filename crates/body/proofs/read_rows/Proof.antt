@@ -10,16 +10,16 @@ use Rattle.body.specs.Rows.{mostRows, isAmong}
 use Rattle.body.specs.Code.Held.{rowsAnswer, RowsHeld}
 use Rattle.text.specs.Laws.Arrays.{none-left}
 use Rattle.body.proofs.Loops.{among-hit, among-miss, among-none}
-use Rattle.body.proofs.Steps.{SoFar, begun, size, refused, missing, within, blank-line, ninth, stray, twice, goes-on, last-line}
+use Rattle.body.proofs.Steps.{SoFar, begun, size, refused, missing, within, blank-line, ninth, stray, time-inside, twice, goes-on, last-line}
 use borrow.Author.Needs.{needs}
 use Rattle.body.proofs.read_rows.Statement.{statement}
 use Rattle.body.proofs.read_rows.Tie as tie
 
 abbrev Inv-loop : tie.InvT-loop
-Inv-loop m rows count closed at start size end read row k₀ k = isAmong row (take count rows) ≡ isAmong row (drop k (take count rows))
+Inv-loop m rows count closed at told₀ start size end read row k₀ told k = isAmong row (take count rows) ≡ isAmong row (drop k (take count rows))
 
 abbrev μ-loop : tie.MeasureT-loop
-μ-loop m rows count closed at start size end read row k₀ k = count - k
+μ-loop m rows count closed at told₀ start size end read row k₀ told k = count - k
 
 abbrev Inv-lines : tie.InvT-lines
 Inv-lines m rows₀ count₀ closed₀ at₀ rows count closed at = SoFar m rows count at × (closed ≡ false)
@@ -66,6 +66,12 @@ part-row-line-end c = let q = c .before .before .before in omega (arith, within 
 row-line-requires : tie.Need-row-line-requires Inv-loop μ-loop Inv-lines μ-lines
 row-line-requires c κs = search needs
 
+add-told : tie.Need-add-told Inv-loop μ-loop Inv-lines μ-lines
+add-told c =
+    let p = c .before .before .before in
+    let q = p .before .before .before .before .before in
+    omega (arith, stray (q .before .before .before .lines .inv .0) (q .before .before .if1 .left) (q .first-line .ensures) (p .before .before .before .if2 .left) (p .before .before .if3 .left) (p .row-line .ensures) (c .before .if4 .taken) .within)
+
 loop-holds : tie.Need-loop-holds Inv-loop μ-loop Inv-lines μ-lines
 loop-holds c = refl
 
@@ -80,6 +86,15 @@ array-copy-out-r c = search needs
 
 same-runway-requires : tie.Need-same-runway-requires Inv-loop μ-loop Inv-lines μ-lines
 same-runway-requires c κs = search needs
+
+add-spaces : tie.Need-add-spaces Inv-loop μ-loop Inv-lines μ-lines
+add-spaces c =
+    let p = c .before .before .before .before .before .before .before .before in
+    let q = p .before .before .before .before .before in
+    omega (arith, time-inside (q .before .before .before .lines .inv .0) (q .before .before .if1 .left) (q .first-line .ensures) (p .before .before .before .if2 .left) (p .before .before .if3 .left) (p .row-line .ensures) (c .before .before .before .before .before .before .if4 .left))
+
+spaces-requires : tie.Need-spaces-requires Inv-loop μ-loop Inv-lines μ-lines
+spaces-requires c κs = search needs
 
 add-k : tie.Need-add-k Inv-loop μ-loop Inv-lines μ-lines
 add-k c = search needs
@@ -127,18 +142,17 @@ rows-answer-requires : tie.Need-rows-answer-requires Inv-loop μ-loop Inv-lines 
 rows-answer-requires c κs = search needs
 
 -- the loop is left with the first line that does not fit, or behind the last row
-answered : (c : tie.Joined1 Inv-loop μ-loop Inv-lines μ-lines) → RowsHeld (c .before .before .before .before .args .m .now) (rowsAnswer (c .if1 .refusal) (record { count = c .if1 .count; rows = c .if1 .rows }) (c .if1 .closed) (c .if1 .at))
+answered : (c : tie.Joined1 Inv-loop μ-loop Inv-lines μ-lines) → RowsHeld (c .before .before .before .before .args .m .now) (rowsAnswer (c .if1 .refusal) (c .if1 .told) (record { count = c .if1 .count; rows = c .if1 .rows }) (c .if1 .closed) (c .if1 .at))
 answered c =
-    let m = c .before .before .before .before .args .m .now in
     let l = c .before .lines in
     let s = l .inv .0 in
-    ⊎-elim (λ w. rw (w .5) (refused m 4 refl (missing s (w .0 .taken)) _ _ _))
-    (⊎-elim (λ w. rw (w .6, w .7, w .8 ∙ l .inv .1, w .9, w .10 ∙ w .5 .ensures) (blank-line s (w .0 .left) (w .2 .ensures) (w .4 .taken)))
-    (⊎-elim (λ w. rw (w .10) (refused m 6 refl (ninth s (w .0 .left) (w .2 .ensures) (w .4 .left) (w .5 .taken)) _ _ _))
-    (⊎-elim (λ w. rw (w .14) (refused m 5 refl (stray s (w .0 .left) (w .2 .ensures) (w .4 .left) (w .5 .left) (w .7 .ensures) (w .9 .taken)) _ _ _))
-    (⊎-elim (λ w. rw (w .20) (refused m 7 refl (twice s (w .0 .left) (w .2 .ensures) (w .4 .left) (w .5 .left) (w .7 .ensures) (w .9 .left)
-    (w .11 .inv ∙ among-hit (l .rows) (l .count) (w .11 .k) (w .12 .taken) (omega (arith, size (s .kept))) (w .7 .result .row) (sym (w .14 .ensures) ∙ w .15 .taken))) _ _ _))
-    (λ w. rw (w .15, w .16, w .17 ∙ w .13 .taken, w .18, w .19 ∙ w .14 .ensures) (last-line s (w .0 .left) (w .2 .ensures) (w .4 .left) (w .5 .left) (w .7 .ensures) (w .9 .left)
+    ⊎-elim (λ w. rw (w .5, w .6) (refused (missing s (w .0 .taken)) _ _ _))
+    (⊎-elim (λ w. rw (w .6, w .7, w .8 ∙ l .inv .1, w .9, w .10, w .11 ∙ w .5 .ensures) (blank-line s (w .0 .left) (w .2 .ensures) (w .4 .taken)))
+    (⊎-elim (λ w. rw (w .10, w .11) (refused (ninth s (w .0 .left) (w .2 .ensures) (w .4 .left) (w .5 .taken)) _ _ _))
+    (⊎-elim (λ w. rw (w .15, w .16) (refused (stray s (w .0 .left) (w .2 .ensures) (w .4 .left) (w .5 .left) (w .7 .ensures) (w .9 .taken)) _ _ _))
+    (⊎-elim (λ w. rw (w .21, w .22) (refused (twice s (w .0 .left) (w .2 .ensures) (w .4 .left) (w .5 .left) (w .7 .ensures) (w .9 .left)
+    (w .11 .inv ∙ among-hit (l .rows) (l .count) (w .11 .k) (w .12 .taken) (omega (arith, size (s .kept))) (w .7 .result .row) (sym (w .14 .ensures) ∙ w .15 .taken)) (w .16 .ensures)) _ _ _))
+    (λ w. rw (w .15, w .16, w .17 ∙ w .13 .taken, w .18, w .19, w .20 ∙ w .14 .ensures) (last-line s (w .0 .left) (w .2 .ensures) (w .4 .left) (w .5 .left) (w .7 .ensures) (w .9 .left)
     (w .11 .inv ∙ among-none (w .7 .result .row) (none-left (l .rows) (l .count) (w .11 .k) (omega (arith, w .12 .left)))) (w .13 .taken))))))) (c .if1 .came)
 
 returns : tie.Need-returns Inv-loop μ-loop Inv-lines μ-lines
@@ -165,11 +179,14 @@ read-rows-spec =
     part-row-line-start
     part-row-line-end
     row-line-requires
+    add-told
     loop-holds
     cast-r
     mul-r
     array-copy-out-r
     same-runway-requires
+    add-spaces
+    spaces-requires
     add-k
     loop-less
     loop-again

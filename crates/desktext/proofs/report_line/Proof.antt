@@ -1,7 +1,7 @@
 use mathlib.Core.Path.{sym, _∙_, ap}
 use native.Mathlib.Omega.{arith}
 use Rattle.text.specs.Laws.Held.{got-of, misfit-of, part-all}
-use Rattle.rowtext.specs.Reading.{wholeRow}
+use Rattle.rowtext.specs.Reading.{findRow}
 use Rattle.desktext.specs.Line.{reportRead}
 use Rattle.desktext.specs.Laws.Line.{long-report}
 use Rattle.desktext.proofs.Lines.{line-started, line-unstarted}
@@ -28,7 +28,7 @@ returns : tie.Need-returns
 returns c =
     let a = c .before .before .before .before .before .before .args in
     let s = c .before .before .before .sender in
-    c .report-rest .ensures ∙ (ap (λ k. reportRead (a .b) (s .result .value) (wholeRow k)) (part-all (s .result .next) (a .line .now))
+    c .report-rest .ensures ∙ (ap (λ k. reportRead (a .b) (s .result .value) (findRow k)) (part-all (s .result .next) (a .line .now))
     ∙ line-started (a .b) (a .line .now) (c .before .before .before .before .if1 .taken) (got-of (s .ensures) (c .before .before .if2 .taken)))
 
 returns-2 : tie.Need-returns-2

@@ -11,11 +11,15 @@ use native.Mathlib.Omega.{arith}
 use Rattle.text.specs.Piece.{Typed, canonical, end, _then_}
 use Rattle.text.specs.Read.{Got, misfit, got}
 use Rattle.text.specs.Laws.Base.{no-misfit}
+use Rattle.text.specs.Out.{Out, refuse, taken}
+use Rattle.text.specs.Laws.Out.{no-refuse, Within, stopped, Any}
 use Rattle.row.specs.declared.Row.{Row}
 use Rattle.row.specs.Row.{validRow}
 use Rattle.rowtext.specs.Text.{rowPieces}
-use Rattle.rowtext.specs.Reading.{wholeRow}
+use Rattle.rowtext.specs.Reading.{findRow}
+use Rattle.rowtext.specs.Laws.Faults.{isRowNumber, row-within}
 use Rattle.rowtext.specs.Theorems.{Tells, row-sound, row-complete}
+use Rattle.board.specs.declared.Answer.{Answer}
 use Rattle.board.specs.declared.Board.{Board}
 use Rattle.board.specs.Board.{validBoard, blankBoard, answer}
 use Rattle.board.specs.declared.Sent.{Sent}
@@ -56,26 +60,30 @@ got-rest : {d e : ℕ} {r s : List ℕ} → got d r ≡ got e s → r ≡ s
 got-rest q = cc
 
 -- what a line tells
-told-by : (line : List ℕ) → leb (length line) 4096 ≡ true → (d : ℕ) (rest : List ℕ) → readSender line ≡ got d rest → (r : Row) (k : List ℕ)
-    → wholeRow rest ≡ got r k → TellsReport line (d sends r)
-told-by line e d rest q r k w =
+told-by : (line : List ℕ) → leb (length line) 4096 ≡ true → (d : ℕ) (rest : List ℕ) → readSender line ≡ got d rest → (r : Row)
+    → findRow rest ≡ taken r → TellsReport line (d sends r)
+told-by line e d rest q r w =
     let s = sender-laws .sound {m = line} q in
     record { short = leb-true (length line) 4096 e; digit = s .0; rest = rest; start = s .1; told = row-sound rest w }
 
--- any other line is refused by 5 and leaves the board as it was
-pub no-report : (b : Board) (line : List ℕ) → ((x : Sent) → TellsReport line x → ⊥) → reportLine b line ≡ answer 5 b
-unfolding reportLine
+-- any other line is refused, by 5 or 24 to 28, and leaves the board as it was
+pub record Refused (b : Board) (a : Answer) : Type 0 where
+  pub number : isRowNumber (a .refusal) ≡ true
+  pub board : a .board ≡ b
+
+pub no-report : (b : Board) (line : List ℕ) → ((x : Sent) → TellsReport line x → ⊥) → Refused b (reportLine b line)
+unfolding reportLine isRowNumber
 no-report b line none = go (leb (length line) 4096) refl (readSender line) refl
   where
-    row : leb (length line) 4096 ≡ true → (d : ℕ) (rest : List ℕ) → readSender line ≡ got d rest → (g : Got Row) → wholeRow rest ≡ g
-        → reportRead b d g ≡ answer 5 b
-    row e d rest q misfit w = refl
-    row e d rest q (got r k) w = absurd (none (d sends r) (told-by line e d rest q r k w))
+    row : leb (length line) 4096 ≡ true → (d : ℕ) (rest : List ℕ) → readSender line ≡ got d rest → (o : Out Row) → findRow rest ≡ o
+        → Within isRowNumber rest Any o → Refused b (reportRead b d o)
+    row e d rest q (refuse n left) w (stopped h t) = record { number = h; board = refl }
+    row e d rest q (taken r) w h = absurd (none (d sends r) (told-by line e d rest q r w))
 
-    go : (t : Bool) → leb (length line) 4096 ≡ t → (g : Got ℕ) → readSender line ≡ g → cond t (reportStarted b g) (answer 5 b) ≡ answer 5 b
-    go false e g q = refl
-    go true e misfit q = refl
-    go true e (got d rest) q = row e d rest q (wholeRow rest) refl
+    go : (t : Bool) → leb (length line) 4096 ≡ t → (g : Got ℕ) → readSender line ≡ g → Refused b (cond t (reportStarted b g) (answer 5 b))
+    go false e g q = record { number = refl; board = refl }
+    go true e misfit q = record { number = refl; board = refl }
+    go true e (got d rest) q = row e d rest q (findRow rest) refl (row-within rest)
 
 -- the reports that lines tell, in their order: a line that tells one gives it, any other line gives none
 pub data ReportsTold : List (List ℕ) → List Sent → Type 0 where
@@ -88,27 +96,27 @@ pub lines-tell : (ls : List (List ℕ)) → (xs : List Sent) × ReportsTold ls x
 lines-tell [] = ([], no-line)
 lines-tell (l ∷ ls) = go (leb (length l) 4096) refl (readSender l) refl (lines-tell ls)
   where
-    row : leb (length l) 4096 ≡ true → (d : ℕ) (rest : List ℕ) → readSender l ≡ got d rest → (g : Got Row) → wholeRow rest ≡ g
+    row : leb (length l) 4096 ≡ true → (d : ℕ) (rest : List ℕ) → readSender l ≡ got d rest → (o : Out Row) → findRow rest ≡ o
         → (xs : List Sent) × ReportsTold ls xs → (xs : List Sent) × ReportsTold (l ∷ ls) xs
-    row e d rest q misfit w k = (
+    row e d rest q (refuse n left) w k = (
       k .0,
       other-line {l = l}
-          (λ x t. no-misfit (sym w ∙ (ap wholeRow (got-rest (sym q ∙ started l x t)) ∙ row-complete (t .rest) (x .row) (t .told)))) (k .1),
+          (λ x t. no-refuse (sym w ∙ (ap findRow (got-rest (sym q ∙ started l x t)) ∙ row-complete (t .rest) (x .row) (t .told)))) (k .1),
     )
-    row e d rest q (got r m) w k = ((d sends r) ∷ k .0, report-line (told-by l e d rest q r m w) (k .1))
+    row e d rest q (taken r) w k = ((d sends r) ∷ k .0, report-line (told-by l e d rest q r w) (k .1))
 
     go : (t : Bool) → leb (length l) 4096 ≡ t → (g : Got ℕ) → readSender l ≡ g → (xs : List Sent) × ReportsTold ls xs
         → (xs : List Sent) × ReportsTold (l ∷ ls) xs
     go false e g q k = (k .0, other-line {l = l} (λ x t. omega (arith, leb-false (length l) 4096 e, t .short)) (k .1))
     go true e misfit q k = (k .0, other-line (λ x t. no-misfit (sym q ∙ started l x t)) (k .1))
-    go true e (got d rest) q k = row e d rest q (wholeRow rest) refl k
+    go true e (got d rest) q k = row e d rest q (findRow rest) refl k
 
 -- the board after row lines is the board after the reports that they tell
 pub lines-report : {ls : List (List ℕ)} {xs : List Sent} (b : Board) → ReportsTold ls xs → reportLines b ls ≡ reports b xs
 unfolding reportLines reports
 lines-report b no-line = refl
 lines-report b (report-line {l} {ls} {x} t more) = rw (line-reports b l x t) (lines-report (report b (x .desk) (x .row) .board) more)
-lines-report b (other-line {l} none more) = rw (no-report b l none) (lines-report b more)
+lines-report b (other-line {l} none more) = rw (no-report b l none .board) (lines-report b more)
 
 -- at the end a place shows the canonical line of its row, or nothing
 module _ (b : Board) (valid : validBoard b ≡ true) (i : ℕ) (used : i < b .count) where

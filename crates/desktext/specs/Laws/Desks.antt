@@ -8,10 +8,11 @@ use lib.ListN.{length}
 use borrow.Author.Tests.{eqb-true}
 use Rattle.text.specs.Refusals.{noRow}
 use Rattle.text.specs.Lines.{longest}
+use Rattle.text.specs.Out.{Out, refuse, taken}
 use Rattle.text.specs.Laws.Base.{true-false}
 use Rattle.text.specs.Read.{Got, misfit, got}
 use Rattle.row.specs.declared.Row.{Row}
-use Rattle.rowtext.specs.Reading.{wholeRow}
+use Rattle.rowtext.specs.Reading.{findRow}
 use Rattle.board.specs.declared.Board.{Board}
 use Rattle.board.specs.declared.Answer.{Answer}
 use Rattle.board.specs.Board.{answer}
@@ -29,25 +30,25 @@ record SameAnswer (d : ℕ) (x y : Answer) : Type 0 where
   boards : Alike d (x .board) (y .board)
 
 module _ {d : ℕ} {b c : Board} (s : Alike d b c) where
-  no-row : SameAnswer d (answer noRow b) (answer noRow c)
-  no-row = record { number = refl; boards = s }
+  no-row : (n : ℕ) → SameAnswer d (answer n b) (answer n c)
+  no-row n = record { number = refl; boards = s }
 
-  read-own : (g : Got Row) → SameAnswer d (reportRead b d g) (reportRead c d g)
+  read-own : (o : Out Row) → SameAnswer d (reportRead b d o) (reportRead c d o)
   unfolding report
-  read-own misfit = no-row
-  read-own (got r k) = record { number = refusal-alike s r; boards = step-own s r }
+  read-own (refuse n left) = no-row n
+  read-own (taken r) = record { number = refusal-alike s r; boards = step-own s r }
 
-  read-other : (e : ℕ) → eqb e d ≡ false → (g : Got Row) → Alike d (reportRead b e g .board) c
-  read-other e n misfit = s
-  read-other e n (got r k) = step-other s r e n
+  read-other : (e : ℕ) → eqb e d ≡ false → (o : Out Row) → Alike d (reportRead b e o .board) c
+  read-other e n (refuse k left) = s
+  read-other e n (taken r) = step-other s r e n
 
   started-own : (g : Got ℕ) → startsBy d g ≡ true → SameAnswer d (reportStarted b g) (reportStarted c g)
   started-own misfit h = true-false (sym h)
-  started-own (got e k) h = subst (λ x. SameAnswer d (reportRead b x (wholeRow k)) (reportRead c x (wholeRow k))) (sym (eqb-true e d h)) (read-own (wholeRow k))
+  started-own (got e k) h = subst (λ x. SameAnswer d (reportRead b x (findRow k)) (reportRead c x (findRow k))) (sym (eqb-true e d h)) (read-own (findRow k))
 
   started-other : (g : Got ℕ) → startsBy d g ≡ false → Alike d (reportStarted b g .board) c
   started-other misfit h = s
-  started-other (got e k) h = read-other e h (wholeRow k)
+  started-other (got e k) h = read-other e h (findRow k)
 
   module _ (l : List ℕ) where
     line-own : startsBy d (readSender l) ≡ true → SameAnswer d (reportLine b l) (reportLine c l)
@@ -56,7 +57,7 @@ module _ {d : ℕ} {b c : Board} (s : Alike d b c) where
       where
         go : (t : Bool) → SameAnswer d (cond t (reportStarted b (readSender l)) (answer noRow b)) (cond t (reportStarted c (readSender l)) (answer noRow c))
         go true = started-own (readSender l) h
-        go false = no-row
+        go false = no-row noRow
 
     line-other : startsBy d (readSender l) ≡ false → Alike d (reportLine b l .board) c
     unfolding reportLine

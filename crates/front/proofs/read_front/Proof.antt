@@ -1,16 +1,15 @@
 -- Lines 1 to 5: what is left from the line k on is what all five say.
 use Prim.Native.Nat.{ℕ, _≤_, _+_, _-_}
-use mathlib.Core.Path.{_≡_, refl, sym, subst, _∙_, ap}
+use mathlib.Core.Path.{_≡_, refl, sym, subst, _∙_}
 use mathlib.Core.List.{List, []}
 use native.Mathlib.Numerals.{add-one}
 use native.Mathlib.Omega.{arith}
 use mathlib.Core.Logic.{⊎-elim}
 use lib.ListN.{length, take, drop}
-use Rattle.text.specs.Lines.{lines, linesSize}
+use Rattle.text.specs.Lines.{cuts, linesSize}
 use Rattle.text.specs.Laws.Lines.{line-inside, line-place}
-use Rattle.front.specs.declared.Front.{Front}
-use Rattle.front.specs.Code.Front.{frontCount, blankFront, fillLine, fillLines, FrontHeld}
-use Rattle.front.proofs.Opening.{fill-addresses, fill-filing, fill-heading, fill-serial, fill-aerodrome, line-missing, step-on, step-off, front-read, front-refused}
+use Rattle.front.specs.Code.Front.{frontCount, Opening, unopened, kept, fillLine, fillLines, FrontHeld}
+use Rattle.front.proofs.Opening.{fill-addresses, fill-filing, fill-heading, fill-serial, fill-aerodrome, line-missing, here, step-on, step-off, front-read, front-refused}
 use borrow.Author.Needs.{needs}
 use borrow.Author.Tests.{not-true, not-false}
 use mathlib.Core.Bool.{cond}
@@ -19,17 +18,17 @@ use Rattle.front.proofs.read_front.Statement.{statement}
 use Rattle.front.proofs.read_front.Tie as tie
 
 abbrev Inv-lines : tie.InvT-lines
-Inv-lines m front₀ at₀ k₀ front at k = (at ≤ length m) × (k ≤ frontCount) × (at ≡ linesSize k m) × (fillLines (frontCount - k) k front (lines (drop at m)) ≡ fillLines frontCount 0 blankFront (lines m))
+Inv-lines m front₀ start₀ at₀ k₀ front start at k = (at ≤ length m) × (k ≤ frontCount) × (at ≡ linesSize k m) × ((o : Opening) × (o .front ≡ front) × (fillLines (frontCount - k) k o (cuts (drop at m)) ≡ fillLines frontCount 0 unopened (cuts m)))
 
 abbrev μ-lines : tie.MeasureT-lines
-μ-lines m front₀ at₀ k₀ front at k = frontCount - k
+μ-lines m front₀ start₀ at₀ k₀ front start at k = frontCount - k
 
 blank-front-requires : tie.Need-blank-front-requires Inv-lines μ-lines
 blank-front-requires c κs = search needs
 
 lines-holds : tie.Need-lines-holds Inv-lines μ-lines
 unfolding linesSize
-lines-holds c = (search needs, search needs, refl, ap (λ (f : Front). fillLines frontCount 0 f (lines (c .before .before .args .m .now))) (c .blank-front .ensures))
+lines-holds c = (search needs, search needs, refl, (unopened, sym (c .blank-front .ensures), refl))
 
 line-refusal-requires : tie.Need-line-refusal-requires Inv-lines μ-lines
 line-refusal-requires c κs = search needs
@@ -101,19 +100,31 @@ filled c =
     (⊎-elim (λ v. rw (v .2, v .3, v .0 .keys4) (fill-serial (l .front) (line f) (v .1 .ensures)))
     (λ v. rw (v .3, v .4) (fill-aerodrome (l .front) (line f) (l .k) (v .0 .rest) (v .1 .ensures)))))) (c .match .came)
 
+-- the same beside the opening that the front stands in
+opened : (c : tie.At-match-came Inv-lines μ-lines)
+    → (let f = c .before .before .before .before in
+    let l = f .before .before .before .before .lines in fillLine (l .k) (l .inv .3 .0 .front) (line f) ≡ cond (c .match .fits) (got (c .match .front) []) misfit)
+opened c = let l = c .before .before .before .before .before .before .before .before .lines in rw (l .inv .3 .1) (filled c)
+
 lines-again : tie.Need-lines-again Inv-lines μ-lines
 lines-again c =
     let g = c .before .match in
     let f = c .before .before .before .before .before in
     let k = f .before .before .before .if1 .left in
     let l = f .before .before .before .before .lines in
+    let o = l .inv .3 .0 in
     let m = f .before .before .before .before .before .before .before .args .m .now in
     let w = f .before .before .if2 .left in
-    let e = f .first-line .ensures in (
+    let e = f .first-line .ensures in
+    let h = opened (c .before) in (
       line-inside m (l .at) w e .1,
       omega arith,
       rw add-one (line-place m (l .at) w e (l .k) (l .inv .2)),
-      sym (step-on m (l .at) w e (l .k) (l .front) (omega arith) (g .fits) (g .front) (filled (c .before)) (not-false _ (c .if3 .left))) ∙ l .inv .3,
+      (
+        kept (l .k) (here m (l .at) w e (l .k) o (omega arith) (g .fits) (g .front) h) o (g .front),
+        refl,
+        sym (step-on m (l .at) w e (l .k) o (omega arith) (g .fits) (g .front) h (not-false _ (c .if3 .left))) ∙ l .inv .3 .2,
+      ),
     )
 
 front-answer-requires : tie.Need-front-answer-requires Inv-lines μ-lines
@@ -123,17 +134,18 @@ front-answer-requires c κs = search needs
 returns : tie.Need-returns Inv-lines μ-lines
 returns c =
     let l = c .before .before .lines in
+    let o = l .inv .3 .0 in
     let m = c .before .before .before .before .before .args .m .now in
     subst (FrontHeld m) (sym (c .front-answer .ensures))
-    (⊎-elim (λ w. rw (w .1, w .2, w .3) (front-read m (l .at) (l .k) (l .front) (l .inv .0) (l .inv .2) (l .inv .3) (l .inv .1) (w .0 .taken)))
-    (⊎-elim (λ w. rw (w .3, w .4, w .5) (front-refused m (l .at) (l .k) (l .front) (l .inv .0) (l .inv .2) (l .inv .3) (w .2 .result) (w .2 .ensures) (line-missing m (l .at) (l .k) (l .front) (omega (arith, w .0 .left)) (w .1 .taken)) (l .front) (l .at)))
+    (⊎-elim (λ w. rw (w .1, w .2, w .3, w .4, ← (l .inv .3 .1)) (front-read m (l .at) (l .k) o (l .inv .0) (l .inv .2) (l .inv .3 .2) (l .inv .1) (w .0 .taken) _))
+    (⊎-elim (λ w. rw (w .3, w .4, w .5, w .6) (front-refused m (l .at) (l .k) o (l .inv .0) (l .inv .2) (l .inv .3 .2) (w .2 .result) (w .2 .ensures) (line-missing m (l .at) (l .k) o (omega (arith, w .0 .left)) (w .1 .taken)) (l .front) (l .at)))
     (λ w.
     let s : tie.At-match-came Inv-lines μ-lines =
     record { match = w .7; before = record { struct-known2 = w .6; before = record { line = w .5; before = record { struct-known = w .4; before = record { first-line = w .3; before = record { first-line-arg = w .2; before = record { if2 = w .1; before = record { if1 = w .0; before = c .before .before } } } } } } } }
     in
-    rw (w .12)
-    (front-refused m (l .at) (l .k) (l .front) (l .inv .0) (l .inv .2) (l .inv .3) (w .9 .result) (w .9 .ensures)
-    (step-off m (l .at) (w .1 .left) (w .3 .ensures) (l .k) (l .front) (omega (arith, w .0 .left)) (w .7 .fits) (w .7 .front) (filled s) (not-true _ (w .8 .taken))) _ _))) (c .before .if1 .came))
+    rw (w .11, w .13)
+    (front-refused m (l .at) (l .k) o (l .inv .0) (l .inv .2) (l .inv .3 .2) (w .9 .result) (w .9 .ensures)
+    (step-off m (l .at) (w .1 .left) (w .3 .ensures) (l .k) o (omega (arith, w .0 .left)) (w .7 .fits) (w .7 .front) (opened s) (not-true _ (w .8 .taken))) _ _))) (c .before .if1 .came))
 
 pub read-front-spec : {M : Type 1} → statement M
 read-front-spec =

@@ -6,7 +6,7 @@ use lib.Dec.{eqb, ltb}
 use lib.ListN.{length, drop}
 use mathlib.Core.Bool.{cond}
 use Rattle.text.specs.Piece.{canonical}
-use Rattle.text.specs.Lines.{lines, linesSize}
+use Rattle.text.specs.Lines.{Cut, cut, text, onward, cuts, linesSize}
 use Rattle.text.specs.Read.{Got, readAs, whole}
 use Rattle.frontlines.specs.declared.Addresses.{Addresses}
 use Rattle.frontlines.specs.declared.Filing.{Filing}
@@ -65,30 +65,49 @@ fillLine k f l =
 unfoldable pub lineRefusal : ℕ → ℕ
 lineRefusal k = cond (ltb k 2) lineOneOrTwo (cond (eqb k 2) lineThree outline)
 
+-- what lines 1 to 5 say so far, and lines 3, 4 and 5 themselves, where a disagreement is told
+pub record Opening : Type 0 where
+  pub front : Front
+  pub third : Cut
+  pub fourth : Cut
+  pub fifth : Cut
+
+-- nothing is read yet
+abbrev pub unopened : Opening
+unopened = record { front = blankFront; third = cut [] []; fourth = cut [] []; fifth = cut [] [] }
+
+-- the line k, counted from 0, kept beside what is said with it
+abbrev pub kept : ℕ → Cut → Opening → Front → Opening
+kept k c o f = record { front = f; third = cond (eqb k 2) c (o .third); fourth = cond (eqb k 3) c (o .fourth); fifth = cond (eqb k 4) c (o .fifth) }
+
 -- one line more, and the lines behind it
-unfoldable pub nextLine : ℕ → Front → List (List ℕ) → Out (Front × List (List ℕ))
-nextLine k f [] = refuse (lineRefusal k)
-nextLine k f (l ∷ ls) = fit (lineRefusal k) (fillLine k f l) (λ g. taken (g, ls))
+unfoldable pub nextLine : ℕ → Opening → List Cut → Out (Opening × List Cut)
+nextLine k o [] = refuse (lineRefusal k) []
+nextLine k o (c ∷ cs) = fit (lineRefusal k) (onward c) (fillLine k (o .front) (text c)) (λ f _. taken (kept k c o f, cs))
 
 -- n lines from the line k on
-unfoldable pub fillLines : ℕ → ℕ → Front → List (List ℕ) → Out (Front × List (List ℕ))
-fillLines zero k f ls = taken (f, ls)
-fillLines (suc n) k f ls = next (nextLine k f ls) (λ p. fillLines n (suc k) (p .0) (p .1))
+unfoldable pub fillLines : ℕ → ℕ → Opening → List Cut → Out (Opening × List Cut)
+fillLines zero k o cs = taken (o, cs)
+fillLines (suc n) k o cs = next (nextLine k o cs) (λ p. fillLines n (suc k) (p .0) (p .1))
 
 -- a refused reading is blank
-abbrev pub noFront : ℕ → FrontRead
-noFront n = record { refusal = n; front = blankFront; next = 0 }
+abbrev pub noFront : ℕ → ℕ → FrontRead
+noFront n at = record { refusal = n; place = at; front = blankFront; next = 0 }
 
--- the answer of the loop over lines 1 to 5: the front, or the refusal that left it
-unfoldable pub frontAnswer : ℕ → Front → ℕ → FrontRead
-frontAnswer n f at = cond (eqb n 0) (record { refusal = 0; front = f; next = at }) (noFront n)
+-- the answer of the loop over lines 1 to 5: the front and the place behind it, or the refusal that left it and its place
+unfoldable pub frontAnswer : ℕ → ℕ → Front → ℕ → FrontRead
+frontAnswer n start f at = cond (eqb n 0) (record { refusal = 0; place = 0; front = f; next = at }) (noFront n start)
 
 -- the answer r is the reading of the front of m; what is below it starts behind five lines
 pub record FrontHeld (m : List ℕ) (r : FrontRead) : Type 0 where
   pub within : r .next ≤ length m
-  pub says : fillLines frontCount 0 blankFront (lines m) ≡ cond (eqb (r .refusal) 0) (taken (r .front, lines (drop (r .next) m))) (refuse (r .refusal))
-  pub place : r .next ≡ cond (eqb (r .refusal) 0) (linesSize frontCount m) 0
-  pub blank : r ≡ cond (eqb (r .refusal) 0) r (noFront (r .refusal))
+  pub inside : r .place ≤ length m
+  pub opening : Opening
+  pub fronts : opening .front ≡ r .front
+  pub says : fillLines frontCount 0 unopened (cuts m)
+      ≡ cond (eqb (r .refusal) 0) (taken (opening, cuts (drop (r .next) m))) (refuse (r .refusal) (drop (r .place) m))
+  pub behind : r .next ≡ cond (eqb (r .refusal) 0) (linesSize frontCount m) 0
+  pub blank : r ≡ frontAnswer (r .refusal) (r .place) (r .front) (r .next)
 
 -- lines 1 to 5, one under the other
 abbrev pub frontText : Addresses → Filing → Title → ℕ → List ℕ

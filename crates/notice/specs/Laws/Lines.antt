@@ -3,7 +3,7 @@ use Prim.Native.Nat.{ℕ}
 use mathlib.Core.Path.{_≡_, refl, sym, subst, _∙_, ap}
 use mathlib.Core.List.{List, [], _∷_, _++_, map}
 use mathlib.Core.Bool.{cond, Bool, true, false}
-use lib.Dec.{eqb, lit<, lit≤}
+use lib.Dec.{eqb}
 use borrow.Author.Tests.{eqb-true, eq-eqb}
 use Rattle.text.specs.Choice.{_and_, all, isEmpty, sameBytes}
 use Rattle.text.specs.Piece.{Piece, Typed, Typing}
@@ -26,34 +26,38 @@ use Rattle.frontlines.specs.Laws.Addresses.{addresses-laws}
 use Rattle.frontlines.specs.Laws.Filing.{filing-laws}
 use Rattle.frontlines.specs.Laws.Heading.{heading-laws, serial-line-laws, aerodrome-laws}
 use Rattle.text.specs.Out.{Out, refuse, taken, readLine}
+use Rattle.text.specs.Lines.{Cut, cut, text, onward}
+use Rattle.text.specs.Laws.Left.{Left}
+use Rattle.text.specs.Laws.Cuts.{Ends}
+use Rattle.front.specs.Places.{timeOn, serialOn}
+use Rattle.front.specs.Laws.Places.{time-left, serial-left}
 use Rattle.body.specs.Rows.{mostRows, latest, readRows}
 use Rattle.remarks.specs.Remarks.{remarkLines, languageLines, readRemarks}
 use Rattle.items.specs.Parts.{noneOrLanguage}
-use Rattle.text.specs.Laws.Out.{no-refuse, took, fit-took, next-took, line-numbered, next-numbered, Numbered}
-use Rattle.body.specs.Laws.Rows.{rows-sound, rows-numbered, rows-complete}
-use Rattle.text.specs.Laws.Told.{Told, last-line, one-line, told}
-use Rattle.remarks.specs.Laws.Remarks.{remarks-sound, remarks-complete, remarks-tail, remarks-numbered}
+use Rattle.text.specs.Laws.Out.{no-refuse, took, fit-took, next-took, Within, stopped, passed, Any, line-within, next-within, isNumber}
+use Rattle.body.specs.Laws.Rows.{rows-sound, rows-complete, EndsBlock, rows-within}
+use Rattle.text.specs.Laws.Told.{Told, last-line, one-line, told, cutting}
+use Rattle.remarks.specs.Laws.Remarks.{remarks-sound, remarks-complete, remarks-tail, remarks-within}
 use Rattle.record.specs.declared.Record.{Record}
 use Rattle.record.specs.Record.{makeRecord}
-use Rattle.record.specs.Answer.{mismatch}
 use Rattle.notice.specs.Reading.{agreeing, readNotice}
 use Rattle.notice.specs.Laws.Parts.{Parts, made, partLines, Good, title-valid}
 
 -- inversion of a line, and of the agreement at the end
-record Line {A B : Type 0} (f : List ℕ → Got A) (ls : List (List ℕ)) (k : A → List (List ℕ) → Out B) (b : B) : Type 0 where
-  first : List ℕ
-  others : List (List ℕ)
-  is : ls ≡ first ∷ others
+record Line {A B : Type 0} (f : List ℕ → Got A) (cs : List Cut) (k : A → Cut → List Cut → Out B) (b : B) : Type 0 where
+  first : Cut
+  others : List Cut
+  is : cs ≡ first ∷ others
   val : A
   rest : List ℕ
-  reads : whole (f first) ≡ got val rest
-  goes : k val others ≡ taken b
+  reads : whole (f (text first)) ≡ got val rest
+  goes : k val first others ≡ taken b
 
-line-took : {A B : Type 0} (n : ℕ) (f : List ℕ → Got A) (ls : List (List ℕ)) {k : A → List (List ℕ) → Out B} {b : B} → readLine n f ls k ≡ taken b
-    → Line f ls k b
+line-took : {A B : Type 0} (n : ℕ) (f : List ℕ → Got A) (cs : List Cut) {k : A → Cut → List Cut → Out B} {b : B} → readLine n f cs k ≡ taken b
+    → Line f cs k b
 line-took n f [] e = no-refuse e
-line-took n f (l ∷ ls) e = let x = fit-took n (whole (f l)) e in
-    record { first = l; others = ls; is = refl; val = x .val; rest = x .rest; reads = x .one; goes = x .two }
+line-took n f (c ∷ cs) e = let x = fit-took n (onward c) (whole (f (text c))) e in
+    record { first = c; others = cs; is = refl; val = x .val; rest = x .rest; reads = x .one; goes = x .two }
 
 record Agreed (h : Heading) (serial : ℕ) (aerodrome : List ℕ) (rows : List Row) (r s : Record) : Type 0 where
   serials : h .title .serial ≡ serial
@@ -61,15 +65,15 @@ record Agreed (h : Heading) (serial : ℕ) (aerodrome : List ℕ) (rows : List R
   times : h .time ≡ latest rows
   same : taken r ≡ taken s
 
-agree-took : (h : Heading) (serial : ℕ) (aerodrome : List ℕ) (rows : List Row) (r : Record) {s : Record} → agreeing h serial aerodrome rows r ≡ taken s
-    → Agreed h serial aerodrome rows r s
-unfolding agreeing mismatch
-agree-took h serial aerodrome rows r {s} e = go (eqb (h .title .serial) serial) refl (sameBytes (h .title .aerodrome) aerodrome) refl
+agree-took : (h : Heading) (l₃ : Cut) (serial : ℕ) (l₄ : Cut) (aerodrome : List ℕ) (l₅ : Cut) (rows : List Row) (r : Record) {s : Record}
+    → agreeing h l₃ serial l₄ aerodrome l₅ rows r ≡ taken s → Agreed h serial aerodrome rows r s
+unfolding agreeing
+agree-took h l₃ serial l₄ aerodrome l₅ rows r {s} e = go (eqb (h .title .serial) serial) refl (sameBytes (h .title .aerodrome) aerodrome) refl
     (eqb (h .time) (latest rows)) refl e
   where
     go : (a : Bool) → eqb (h .title .serial) serial ≡ a → (b : Bool) → sameBytes (h .title .aerodrome) aerodrome ≡ b → (c : Bool)
         → eqb (h .time) (latest rows) ≡ c
-        → cond (eqb (cond a (cond b (cond c 0 12) 11) 10) 0) (taken r) (refuse (cond a (cond b (cond c 0 12) 11) 10)) ≡ taken s
+        → cond a (cond b (cond c (taken r) (refuse 12 (timeOn l₃))) (refuse 11 (onward l₅))) (refuse 10 (serialOn l₄)) ≡ taken s
         → Agreed h serial aerodrome rows r s
     go true p true q true t f = record {
       serials = eqb-true (h .title .serial) serial p;
@@ -82,23 +86,24 @@ agree-took h serial aerodrome rows r {s} e = go (eqb (h .title .serial) serial) 
     go true p false q c t f = no-refuse f
     go false p b q c t f = no-refuse f
 
-pub record Taken (ls : List (List ℕ)) (r : Record) : Type 0 where
+pub record Taken (cs : List Cut) (r : Record) : Type 0 where
   pub parts : Parts
   pub good : Good parts
-  pub tells : Tells (partLines parts) ls
+  pub tells : Tells (partLines parts) (map text cs)
   pub is : made parts ≡ r
 
-pub notice-sound : (ls : List (List ℕ)) {r : Record} → readNotice ls ≡ taken r → Taken ls r
+pub notice-sound : (cs : List Cut) {r : Record} → readNotice cs ≡ taken r → Taken cs r
 unfolding readNotice
-notice-sound ls {r} e =
-    let l₁ = line-took 2 readAddresses ls e in
+notice-sound cs {r} e =
+    let l₁ = line-took 2 readAddresses cs e in
     let l₂ = line-took 2 readFiling (l₁ .others) (l₁ .goes) in
     let l₃ = line-took 3 readHeading (l₂ .others) (l₂ .goes) in
     let l₄ = line-took 4 readSerialLine (l₃ .others) (l₃ .goes) in
     let l₅ = line-took 4 readAerodrome (l₄ .others) (l₄ .goes) in
     let n₁ = next-took (readRows mostRows [] (l₅ .others)) (l₅ .goes) in
     let n₂ = next-took (readRemarks (n₁ .val .after)) (n₁ .two) in
-    let a = agree-took (l₃ .val) (l₄ .val) (l₅ .val) (n₁ .val .rows) (makeRecord (l₁ .val) (l₂ .val) (l₃ .val .title) (n₁ .val .rows) (n₂ .val)) (n₂ .two) in
+    let a = agree-took (l₃ .val) (l₃ .first) (l₄ .val) (l₄ .first) (l₅ .val) (l₅ .first) (n₁ .val .rows) (makeRecord (l₁ .val) (l₂ .val)
+    (l₃ .val .title) (n₁ .val .rows) (n₂ .val)) (n₂ .two) in
     let w₁ = whole-sound addresses-laws (l₁ .reads) in
     let w₂ = whole-sound filing-laws (l₂ .reads) in
     let w₃ = whole-sound heading-laws (l₃ .reads) in
@@ -106,8 +111,9 @@ notice-sound ls {r} e =
     let w₅ = whole-sound aerodrome-laws (l₅ .reads) in
     let rs = rows-sound mostRows [] (l₅ .others) (n₁ .one) in
     let rm = remarks-sound (n₁ .val .after) (n₂ .one) in
+    let p : Parts = record { addresses = l₁ .val; filing = l₂ .val; heading = l₃ .val; rows = rs .new; remarks = n₂ .val } in
     record {
-      parts = record { addresses = l₁ .val; filing = l₂ .val; heading = l₃ .val; rows = rs .new; remarks = n₂ .val };
+      parts = p;
       good = record {
         addresses = w₁ .0;
         filing = w₂ .0;
@@ -117,30 +123,32 @@ notice-sound ls {r} e =
         language = rm .language;
         time = a .times ∙ ap latest (rs .is);
       };
-      tells = subst (Tells _) (sym (l₁ .is ∙ ap (λ k. l₁ .first ∷ k)
+      tells = subst (λ k. Tells (partLines p) (map text k)) (sym (l₁ .is ∙ ap (λ k. l₁ .first ∷ k)
           (l₂ .is ∙ ap (λ k. l₂ .first ∷ k) (l₃ .is ∙ ap (λ k. l₃ .first ∷ k) (l₄ .is ∙ ap (λ k. l₄ .first ∷ k) (l₅ .is))))))
           (and-next (w₁ .1) (and-next (w₂ .1) (and-next (w₃ .1)
-          (and-next (subst (λ s. Typed (serialPieces s) (l₄ .first) []) (sym (a .serials)) (w₄ .1))
-          (and-next (subst (λ s. Typed (aerodromePieces s) (l₅ .first) []) (sym (a .aerodromes)) (w₅ .1))
+          (and-next (subst (λ s. Typed (serialPieces s) (text (l₄ .first)) []) (sym (a .serials)) (w₄ .1))
+          (and-next (subst (λ s. Typed (aerodromePieces s) (text (l₅ .first)) []) (sym (a .aerodromes)) (w₅ .1))
           (rs .tells (remarkLines (n₂ .val .items) (n₂ .val .language)) (rm .follows)))))));
       is = ap (λ k. makeRecord (l₁ .val) (l₂ .val) (l₃ .val .title) k (n₂ .val)) (sym (rs .is))
           ∙ took (λ s. makeRecord (l₁ .val) (l₂ .val) (l₃ .val .title) (n₁ .val .rows) (n₂ .val) ≡ s) (a .same) refl;
     }
 
 -- the other way
-record LineOf (ps : List Piece) (tail : List (List Piece)) (ls : List (List ℕ)) : Type 0 where
-  first : List ℕ
-  others : List (List ℕ)
-  is : ls ≡ first ∷ others
-  typed : Typing ps first
-  tells : Tells tail others
+record LineOf (ps : List Piece) (tail : List (List Piece)) (cs : List Cut) : Type 0 where
+  first : Cut
+  others : List Cut
+  is : cs ≡ first ∷ others
+  typed : Typing ps (text first)
+  tells : Tells tail (map text others)
 
-line-of : {ps : List Piece} {tail : List (List Piece)} {ls : List (List ℕ)} → isEmpty tail ≡ false → Tells (ps ∷ tail) ls → LineOf ps tail ls
-line-of {ps} {tail} {ls} h t = go (told t)
+line-of : {ps : List Piece} {tail : List (List Piece)} (cs : List Cut) → isEmpty tail ≡ false → Tells (ps ∷ tail) (map text cs) → LineOf ps tail cs
+line-of {ps} {tail} cs h t = go (told t)
   where
-    go : Told ps tail ls → LineOf ps tail ls
+    go : Told ps tail (map text cs) → LineOf ps tail cs
     go (last-line l k e f q u) = true-false (sym (sym h ∙ ap isEmpty e))
-    go (one-line l ls′ f u w) = record { first = l; others = ls′; is = f; typed = u; tells = w }
+    go (one-line l ls f u w) =
+        let c = cutting cs f in
+        record { first = cut l (c .behind); others = c .others; is = c .is; typed = u; tells = subst (Tells tail) (sym (c .texts)) w }
 
 rows-some : (rs : List Row) (pss : List (List Piece)) → isEmpty rs ≡ false → isEmpty (map rowPieces rs ++ pss) ≡ false
 rows-some [] pss h = true-false h
@@ -151,21 +159,22 @@ serial-of : (h : Heading) → validTitle (h .title) ≡ true → isSerial (h .ti
 unfolding validTitle
 serial-of h v = and-1 _ _ (and-2 _ _ v)
 
-pub notice-complete : (p : Parts) {ls : List (List ℕ)} → Good p → Tells (partLines p) ls → readNotice ls ≡ taken (made p)
-unfolding readNotice agreeing mismatch validTitle
-notice-complete p {ls} g t =
-    let l₁ = line-of refl t in
-    let l₂ = line-of refl (l₁ .tells) in
-    let l₃ = line-of refl (l₂ .tells) in
-    let l₄ = line-of refl (l₃ .tells) in
-    let l₅ = line-of (rows-some (p .rows) (remarkLines (p .remarks .items) (p .remarks .language)) (g .rows .some)) (l₄ .tells) in
+pub notice-complete : (p : Parts) (cs : List Cut) → Good p → Tells (partLines p) (map text cs) → readNotice cs ≡ taken (made p)
+unfolding readNotice agreeing validTitle
+notice-complete p cs g t =
+    let l₁ = line-of cs refl t in
+    let l₂ = line-of (l₁ .others) refl (l₁ .tells) in
+    let l₃ = line-of (l₂ .others) refl (l₂ .tells) in
+    let l₄ = line-of (l₃ .others) refl (l₃ .tells) in
+    let l₅ = line-of (l₄ .others) (rows-some (p .rows) (remarkLines (p .remarks .items) (p .remarks .language)) (g .rows .some)) (l₄ .tells) in
     let v = title-valid (p .heading) (g .heading) in
     let w₁ = whole-complete addresses-laws (p .addresses) (g .addresses) (l₁ .typed) in
     let w₂ = whole-complete filing-laws (p .filing) (g .filing) (l₂ .typed) in
     let w₃ = whole-complete heading-laws (p .heading) (g .heading) (l₃ .typed) in
     let w₄ = whole-complete serial-line-laws (p .heading .title .serial) (serial-of (p .heading) v) (l₄ .typed) in
     let w₅ = whole-complete aerodrome-laws (p .heading .title .aerodrome) (and-2 _ _ (and-2 _ _ v)) (l₅ .typed) in
-    let b = rows-complete mostRows [] (p .rows) (remarks-tail (p .remarks .items) (p .remarks .language)) (g .rows .valid) (g .rows .other) (g .rows .few)
+    let b = rows-complete mostRows [] (p .rows) (l₅ .others) (remarks-tail (p .remarks .items) (p .remarks .language)) (g .rows .valid)
+    (g .rows .other) (g .rows .few)
     (λ _. g .rows .some) (l₅ .tells) in
     let m = remarks-complete (b .after) (p .remarks .items) (p .remarks .language) (g .items) (g .language) (b .follows) in
     let is = l₁ .is ∙ ap (λ k. l₁ .first ∷ k) (l₂ .is
@@ -183,25 +192,32 @@ notice-complete p {ls} g t =
       eq-eqb (p .heading .time) (latest (p .rows)) (g .time),
     )
 
--- every refusal has a number from 1 to 12
-agree-numbered : (h : Heading) (serial : ℕ) (aerodrome : List ℕ) (rows : List Row) (r : Record) → Numbered (agreeing h serial aerodrome rows r)
-unfolding agreeing mismatch
-agree-numbered h serial aerodrome rows r = go (eqb (h .title .serial) serial) (sameBytes (h .title .aerodrome) aerodrome) (eqb (h .time) (latest rows))
-  where
-    go : (a b c : Bool) → Numbered (cond (eqb (cond a (cond b (cond c 0 12) 11) 10) 0) (taken r) (refuse (cond a (cond b (cond c 0 12) 11) 10)))
-    go true true true = tt
-    go true true false = (lit< tt, lit≤ tt)
-    go true false c = (lit< tt, lit≤ tt)
-    go false b c = (lit< tt, lit≤ tt)
+-- a refused message: its number is one of the list, and what is left is an end of it
+module _ (m : List ℕ) where
+  agree-within : (h : Heading) (l₃ : Cut) (serial : ℕ) (l₄ : Cut) (aerodrome : List ℕ) (l₅ : Cut) (rows : List Row) (r : Record)
+      → Left m (onward l₃) → Left m (onward l₄) → Left m (onward l₅) → Within isNumber m Any (agreeing h l₃ serial l₄ aerodrome l₅ rows r)
+  unfolding agreeing isNumber
+  agree-within h l₃ serial l₄ aerodrome l₅ rows r t₃ t₄ t₅ =
+      go (eqb (h .title .serial) serial) (sameBytes (h .title .aerodrome) aerodrome) (eqb (h .time) (latest rows))
+    where
+      go : (a b c : Bool) → Within isNumber m {A = Record} Any (cond a (cond b (cond c (taken r) (refuse 12 (timeOn l₃))) (refuse 11 (onward l₅)))
+          (refuse 10 (serialOn l₄)))
+      go true true true = passed tt
+      go true true false = stopped refl (time-left l₃ t₃)
+      go true false c = stopped refl t₅
+      go false b c = stopped refl (serial-left l₄ t₄)
 
-pub notice-numbered : (ls : List (List ℕ)) → Numbered (readNotice ls)
-unfolding readNotice
-notice-numbered ls₁ =
-    line-numbered readAddresses ls₁ _ (lit< tt, lit≤ tt)
-    (λ a ls₂. line-numbered readFiling ls₂ _ (lit< tt, lit≤ tt) (λ f ls₃. line-numbered readHeading ls₃ _ (lit< tt, lit≤ tt) (λ h ls₄.
-    line-numbered readSerialLine ls₄ _ (lit< tt, lit≤ tt) (λ s ls₅. line-numbered readAerodrome ls₅ _ (lit< tt, lit≤ tt) (λ p ls₆.
-    next-numbered (readRows mostRows [] ls₆) _ (rows-numbered mostRows [] ls₆)
-    (λ b. next-numbered (readRemarks (b .after)) _ (remarks-numbered (b .after)) (λ x. agree-numbered h s p (b .rows) _)))))))
+  pub notice-within : (cs : List Cut) → Ends m cs → Within isNumber m Any (readNotice cs)
+  unfolding readNotice isNumber
+  notice-within cs₁ e₁ =
+      line-within isNumber m Any 2 readAddresses cs₁ _ refl e₁ (λ addresses _ cs₂ _ e₂.
+      line-within isNumber m Any 2 readFiling cs₂ _ refl e₂ (λ filing _ cs₃ _ e₃.
+      line-within isNumber m Any 3 readHeading cs₃ _ refl e₃ (λ heading line₃ cs₄ t₃ e₄.
+      line-within isNumber m Any 4 readSerialLine cs₄ _ refl e₄ (λ serial line₄ cs₅ t₄ e₅.
+      line-within isNumber m Any 4 readAerodrome cs₅ _ refl e₅ (λ aerodrome line₅ cs₆ t₅ e₆.
+      next-within isNumber m Any (EndsBlock m) (readRows mostRows [] cs₆) _ (rows-within m mostRows [] cs₆ e₆) (λ b l.
+      next-within isNumber m Any Any (readRemarks (b .after)) _ (remarks-within m (b .after) l) (λ x _.
+      agree-within heading line₃ serial line₄ aerodrome line₅ (b .rows) _ t₃ t₄ t₅)))))))
 
 -- every line of a notice stands within its line
 rows-inline : (rs : List Row) → all validRow rs ≡ true → all inline (map rowPieces rs) ≡ true

@@ -12,7 +12,7 @@ use Rattle.record.specs.Record.{validRecord}
 use Rattle.record.specs.Answer.{accepted}
 use Rattle.notice.specs.Reading.{reading}
 use Rattle.notice.specs.Same.{TellSame, SaysSame, sameRecord}
-use Rattle.notice.specs.Theorems.{read-valid}
+use Rattle.notice.specs.Theorems.{accepted-is, read-valid}
 
 -- of valid records, since rows and items are compared only as far as the count goes
 record-same : (a b : Record) → validRecord a ≡ true → validRecord b ≡ true → sameRecord a b ≡ true → a ≡ b
@@ -38,6 +38,10 @@ same-record a =
     and-i (same-title (a .title)) (and-i (same-filing (a .filing)) (and-i (same-addresses (a .addresses))
     (and-i (same-rows (a .rows)) (and-i (same-items (a .items)) (same-language (a .language))))))
 
+-- a message that is accepted is read as its record
+as-read : (m : List ℕ) (a : Reading) → a ≡ reading m → a .refusal ≡ 0 → reading m ≡ accepted (a .«record»)
+as-read m a e z = accepted-is m (ap (λ (r : Reading). r .refusal) (sym e) ∙ z) ∙ ap (λ (r : Reading). accepted (r .«record»)) (sym e)
+
 -- the readings of two messages
 module _ (a b : List ℕ) (x : Reading) (first : x ≡ reading a) where
   of-first : (t : TellSame a b) → x ≡ accepted (t .tells)
@@ -57,9 +61,7 @@ module _ (a b : List ℕ) (x : Reading) (first : x ≡ reading a) where
     compared p q r e = (
       λ z.
           let s = record-same (x .«record») (y .«record») (read-valid a x first p) (read-valid b y second q) (sym e ∙ z) in
-          let u : x ≡ accepted (x .«record») = λ i. record { refusal = p i; «record» = x .«record» } in
-          let v : y ≡ accepted (x .«record») = λ i. record { refusal = q i; «record» = sym s i } in
-          record { tells = x .«record»; one = sym first ∙ u; other = sym second ∙ v },
+          record { tells = x .«record»; one = as-read a x first p; other = as-read b y second q ∙ ap accepted (sym s) },
       λ t.
           let u = ap (λ (r : Reading). r .«record») (of-first t) in
           let v = ap (λ (r : Reading). r .«record») (of-second t) in

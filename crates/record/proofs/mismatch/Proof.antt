@@ -1,4 +1,4 @@
-use Rattle.record.specs.Answer.{mismatch}
+use Rattle.record.specs.Code.Fitted.{mismatch}
 use borrow.Author.Tests.{eq-eqb, ne-eqb, not-true, not-false}
 use mathlib.Core.Path.{sym, _∙_}
 use borrow.Author.Needs.{needs}

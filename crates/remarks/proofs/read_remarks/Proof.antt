@@ -106,18 +106,18 @@ lines-again c =
     (not-false _ (c .before .before .if5 .left)) (c .if6 .left)
 
 -- the loop is left with the first line that does not fit, or behind the last line
-answered : (c : tie.Joined2 Inv-lines μ-lines) → Left (c .before .before .before .before .before .before .before .before .before .before .before .args .m .now) (c .if2 .items) (c .if2 .count) (c .before .before .before .before .before .before .before .lines .at) (c .if2 .size) (c .if2 .refusal)
+answered : (c : tie.Joined2 Inv-lines μ-lines) → Left (c .before .before .before .before .before .before .before .before .before .before .before .args .m .now) (c .if2 .items) (c .if2 .count) (c .before .before .before .before .before .before .before .lines .at) (c .if2 .size) (c .if2 .refusal) (c .if2 .place)
 answered c =
     let t = c .before in
     let s = t .before .before .before .before .before .before .lines .inv in
     let f = t .before .before .before .before .first-line .ensures in
     let e = t .text-size .ensures in
-    ⊎-elim (λ w. rw (w .4, w .5) (refused s f 4 refl (not-closed s f e (w .0 .taken) (w .1 .taken)) _ _))
-    (⊎-elim (λ w. rw (w .7, w .8) (refused s f 9 refl (no-language s f e (w .0 .taken) (w .1 .left) (w .3 .ensures) (not-true _ (w .4 .taken))) _ _))
-    (⊎-elim (λ w. rw (w .6, w .7, w .8, w .9) (last-language s f e (w .0 .taken) (w .1 .left) (w .3 .ensures) (not-false _ (w .4 .left)) (w .5 .ensures)))
-    (⊎-elim (λ w. rw (w .7, w .8) (refused s f 8 refl (no-items s f e (w .0 .left) (w .2 .ensures) (not-true _ (w .4 .taken))) _ _))
-    (⊎-elim (λ w. rw (w .10, w .11) (refused s f 8 refl (empty-items s f e (w .0 .left) (w .2 .ensures) (not-false _ (w .4 .left)) (w .6 .taken) (w .7 .taken)) _ _))
-    (λ w. rw (w .9, w .10, w .11, w .12) (last-items s f e (w .0 .left) (w .2 .ensures) (not-false _ (w .4 .left)) (w .6 .taken) (w .7 .left) (w .8 .ensures))))))) (c .if2 .came)
+    ⊎-elim (λ w. rw (w .4, w .5, w .6) (refused s f 4 _ refl (not-closed s f e (w .0 .taken) (w .1 .taken)) _ _))
+    (⊎-elim (λ w. rw (w .7, w .8, w .9) (refused s f 9 _ refl (no-language s f e (w .0 .taken) (w .1 .left) (w .3 .ensures) (not-true _ (w .4 .taken))) _ _))
+    (⊎-elim (λ w. rw (w .6, w .7, w .8, w .9, w .10) (last-language s f e (w .0 .taken) (w .1 .left) (w .3 .ensures) (not-false _ (w .4 .left)) (w .5 .ensures)))
+    (⊎-elim (λ w. rw (w .7, w .8, w .9) (refused s f 8 _ refl (no-items s f e (w .0 .left) (w .2 .ensures) (not-true _ (w .4 .taken))) _ _))
+    (⊎-elim (λ w. rw (w .10, w .11, w .12) (refused s f 8 _ refl (empty-items s f e (w .0 .left) (w .2 .ensures) (not-false _ (w .4 .left)) (w .6 .taken) (w .7 .taken)) _ _))
+    (λ w. rw (w .9, w .10, w .11, w .12, w .13) (last-items s f e (w .0 .left) (w .2 .ensures) (not-false _ (w .4 .left)) (w .6 .taken) (w .7 .left) (w .8 .ensures))))))) (c .if2 .came)
 
 no-remarks-requires-2 : tie.Need-no-remarks-requires-2 Inv-lines μ-lines
 no-remarks-requires-2 c κs = search needs

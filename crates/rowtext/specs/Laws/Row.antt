@@ -24,7 +24,8 @@ use Rattle.thirds.specs.Groups.{codes, coverages, depths, descriptions, highest
 use Rattle.thirds.specs.Laws.Groups.{Shown, codes-laws}
 use Rattle.row.specs.Row.{validRow, isShort}
 use Rattle.rowtext.specs.Text.{numbersOf, groupOf, middlePieces, widthPieces, rowPieces}
-use Rattle.rowtext.specs.Reading.{Groups, makeThirds, readGroups, makeRow, readRow}
+use Rattle.rowtext.specs.Reading.{Groups, makeThirds, makeRow}
+use Rattle.rowtext.specs.Laws.Whole.{readGroups, readRow}
 use Rattle.row.specs.declared.Row.{Row}
 use Rattle.row.specs.Laws.Row.{three-of}
 use Rattle.rowtext.specs.Laws.Tail.{Valid, formed, rest-laws, width-laws}
@@ -56,7 +57,7 @@ record Showable (t : Third) : Type 0 where
   depth : t .depth ≤ highest depths
   description : t .description ≤ highest descriptions
 
-coverage-low : (c : ℕ) → isCoverage c ≡ true → c ≤ 100
+pub coverage-low : (c : ℕ) → isCoverage c ≡ true → c ≤ 100
 unfolding isCoverage _and_
 coverage-low c h = leb-true c 100 (all-at (λ x. leb x 100) (25 ∷ 50 ∷ 75 ∷ 100 ∷ []) c refl h)
 
@@ -81,7 +82,7 @@ valid-third t h =
     dep e true q k = let z = eqb-true (t .depth) 0 q in omega arith
     dep e false q k = leb-true (t .depth) 999 (and-2 _ _ k)
 
-real-low : (t : ℕ) → realTime t ≡ true → t < 10 ^ 8
+pub real-low : (t : ℕ) → realTime t ≡ true → t < 10 ^ 8
 unfolding realTime realDay
 real-low t h = let k = leb-true (t / 1000000) 12 (and-1 _ _ (and-2 _ _ (and-1 _ _ h))) in omega arith
 

@@ -24,10 +24,11 @@ use Rattle.thirds.specs.Laws.Groups.{Shown, coverages-laws, depths-laws, descri
 use Rattle.thirds.specs.Laws.Alike.{coverages-descriptions}
 use Rattle.row.specs.Row.{isBare, isShort}
 use Rattle.rowtext.specs.Text.{widthPieces}
-use Rattle.rowtext.specs.Reading.{Rest, allNR, makeThirds, readFull, readShort, readRest, readWidth}
+use Rattle.rowtext.specs.Reading.{Rest, allNR, makeThirds, readWidth}
+use Rattle.rowtext.specs.Laws.Whole.{readFull, readShort, readRest}
 
 -- where the descriptions stand and no depths come behind them, the full form does not fit
-full-misfit : (m : List ℕ) {k : Three} {r : List ℕ} → readGroup descriptions m ≡ got k r → readGroup depths r ≡ misfit → readFull m ≡ misfit
+pub full-misfit : (m : List ℕ) {k : Three} {r : List ℕ} → readGroup descriptions m ≡ got k r → readGroup depths r ≡ misfit → readFull m ≡ misfit
 unfolding readFull
 full-misfit m {k} {r} e d = go (readGroup coverages m) refl
   where

@@ -1,12 +1,13 @@
 -- Lines told one by one: the last one closed by `)`, and what comes behind a part of the message.
 use Prim.Native.Nat.{ℕ}
 use mathlib.Core.Path.{_≡_, refl, subst, _∙_, ap}
-use mathlib.Core.List.{List, [], _∷_, _++_}
+use mathlib.Core.List.{List, [], _∷_, _++_, map}
 use mathlib.Core.Bool.{cond, true, false}
+use native.Mathlib.Omega.{arith}
 use Rattle.text.specs.Choice.{isEmpty}
 use Rattle.text.specs.Piece.{Piece, Typed, Typing}
 use Rattle.text.specs.Read.{Got}
-use Rattle.text.specs.Lines.{closed, allButLast, lineText}
+use Rattle.text.specs.Lines.{Cut, cut, text, closed, allButLast, lineText}
 use Rattle.text.specs.Laws.Base.{Laws}
 use Rattle.text.specs.Laws.Lines.{Tells, final, next as and-next, typed-clean, closed-on, closed-off, closed-is}
 use Rattle.text.specs.Out.{After, finished, more}
@@ -14,7 +15,7 @@ use Rattle.text.specs.Out.{After, finished, more}
 -- what comes behind the rows
 abbrev pub Follows : After → List (List Piece) → Type 0
 Follows finished pss = pss ≡ []
-Follows (more ls) pss = (qss : List (List Piece)) × (pss ≡ [] ∷ qss) × Tells qss ls
+Follows (more cs) pss = (qss : List (List Piece)) × (pss ≡ [] ∷ qss) × Tells qss (map text cs)
 
 -- a closed line is told by its text, and so is an open one
 pub closed-tells : {ps : List Piece} (l : List ℕ) {ls : List (List ℕ)} → closed l ≡ true → ls ≡ [] → Typing ps (lineText l) → Tells (ps ∷ []) (l ∷ ls)
@@ -55,3 +56,21 @@ opened-closed l k e =
 pub opened-open : {A : Type 0} {v : A → Type 0} {lay : A → List Piece} {rd : List ℕ → Got A} {s f : List ℕ → Type 0} → Laws v lay rd s f
     → (a : A) {l : List ℕ} → v a → Typing (lay a) l → (closed l ≡ false) × (lineText l ≡ l)
 opened-open F a {l} w t = let c = closed-off l (typed-clean (F .within a w) t) in (c, ap (λ b. cond b (allButLast l) l) c)
+
+-- the lines of cuts, by their texts
+pub record Cutting (cs : List Cut) (l : List ℕ) (ls : List (List ℕ)) : Type 0 where
+  pub behind : List ℕ
+  pub others : List Cut
+  pub is : cs ≡ cut l behind ∷ others
+  pub texts : map text others ≡ ls
+
+pub cutting : (cs : List Cut) {l : List ℕ} {ls : List (List ℕ)} → map text cs ≡ l ∷ ls → Cutting cs l ls
+cutting [] e = let z : _≡_ {A = ℕ} 0 1 = cc in absurd (omega arith)
+cutting (cut t behind ∷ cs) {l} {ls} e =
+    let p : t ≡ l = cc in
+    let q : map text cs ≡ ls = cc in
+    record { behind = behind; others = cs; is = ap (λ k. cut k behind ∷ cs) p; texts = q }
+
+pub no-cuts : (cs : List Cut) → map text cs ≡ [] → cs ≡ []
+no-cuts [] e = refl
+no-cuts (c ∷ cs) e = let z : _≡_ {A = ℕ} 0 1 = cc in absurd (omega arith)
