@@ -5,8 +5,8 @@
  *
  * The runways stand in rising order, each with the desk that owns it, 1 or 2, as 07L/1 07R/2. Reports are runway rows on standard input, one a
  * line, each behind the digit of the desk that sends it and one space; lines end with LF or CR LF, and the last may lack its end. Each is
- * answered on standard error: taken, with the row as the board shows it now, or refused. At the end the notice goes to standard output, with
- * the heading details, items and plain language of the message in the file MODEL.
+ * answered on standard error: taken, with the row as the board shows it now, or refused; the time of the newest observation shown follows.
+ * At the end the notice goes to standard output, with the heading details, items and plain language of the message in the file MODEL.
  *
  * The exit status is 0 where the notice is written, 1 where the board, the model or the notice is refused, and 2 for wrong use or where
  * reading or writing fails. A refused report changes neither the board nor the status.
@@ -254,6 +254,9 @@ int main(int argc, char **argv)
     take_reports(&opened.board);
     if (ferror(stdin)) {
         return failed("reports");
+    }
+    if (opened.board.latest != 0) {
+        fprintf(stderr, "newest %08lu\n", (unsigned long)opened.board.latest);
     }
     int status = write_notice(opened.board, &model.record);
     return ferror(stderr) ? FAILED : status;

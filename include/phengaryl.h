@@ -254,6 +254,7 @@ typedef struct phengaryl_board {
     uint8_t count;                       /* 1 to 8 runways, in rising order */
     phengaryl_runway runways[8];
     uint8_t owners[8];                   /* the desk that owns each, 1 or 2 */
+    uint32_t latest;                     /* the time of the row observed last, MMDDhhmm as a number; 0 where none is shown */
     phengaryl_row rows[8];               /* the row shown for each */
 } phengaryl_board;
 

@@ -255,6 +255,7 @@ pub struct Board {
     pub count: u8,
     pub runways: [Runway; 8],
     pub owners: [u8; 8],
+    pub latest: u32,
     pub rows: [Row; 8],
 }
 

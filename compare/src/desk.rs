@@ -58,6 +58,8 @@ struct Sent {
 struct Run {
     board: Board,
     answers: Vec<u8>,
+    /// The time that the board stored after its opening, and then after each report.
+    stored: Vec<u32>,
 }
 
 /// Everything the desk program prints for its standard input.
@@ -67,7 +69,12 @@ pub fn desk(input: &[u8]) -> Vec<u8> {
 
 /// What the desk program would print, were the board of a shift opened by a line.
 pub fn live(shift: &Shift) -> Vec<u8> {
-    printed(shift.board().map(|board| board.after(shift.reports.iter().map(Report::read))))
+    printed(shift.run())
+}
+
+/// The time that the board of a shift stores after its opening and after each report; none where it does not open.
+pub fn stored_times(shift: &Shift) -> Option<Vec<u32>> {
+    shift.run().map(|run| run.stored)
 }
 
 /// The board after a whole desk input as a notice: all but its aerodrome, rows and heading time is the model's. Whether
@@ -91,7 +98,7 @@ fn run(input: &[u8]) -> Option<Run> {
 }
 
 fn printed(run: Option<Run>) -> Vec<u8> {
-    let Run { board, answers } = match run {
+    let Run { board, answers, .. } = match run {
         Some(run) => run,
         None => return b"REFUSED 17\n".to_vec(),
     };
@@ -167,6 +174,10 @@ impl Shift {
         let zeros = self.list[count..].iter().all(|&owned| owned == Owned::default());
         Board::open(&self.aerodrome, used).filter(|_| zeros)
     }
+
+    fn run(&self) -> Option<Run> {
+        Some(self.board()?.after(self.reports.iter().map(Report::read)))
+    }
 }
 
 impl Board {
@@ -188,8 +199,12 @@ impl Board {
 
     /// What is no report, or no row, is answered before the board is asked.
     fn after(mut self, reports: impl Iterator<Item = Result<Sent, u8>>) -> Run {
-        let answers = reports.map(|sent| sent.and_then(|sent| self.take(sent)).err().unwrap_or(0)).collect();
-        Run { board: self, answers }
+        let (mut answers, mut stored) = (Vec::new(), vec![self.latest()]);
+        for sent in reports {
+            answers.push(sent.and_then(|sent| self.take(sent)).err().unwrap_or(0));
+            stored.push(self.latest());
+        }
+        Run { board: self, answers, stored }
     }
 
     /// Takes a row of the sender's own runway that is later than the one shown, or answers the refusal number.
@@ -211,6 +226,11 @@ impl Board {
     /// The rows shown, in board order.
     fn shown(&self) -> impl Iterator<Item = &Row> {
         self.places.iter().filter_map(|place| place.shown.as_ref())
+    }
+
+    /// The stored time: the latest of the rows shown, 0 for none. It is worked out anew from all of them each time.
+    fn latest(&self) -> u32 {
+        self.shown().map(|row| row.time).max().unwrap_or(0)
     }
 }
 
@@ -610,6 +630,56 @@ mod tests {
         let told = with(|shift| shift.reports = reports.to_vec());
         let shown = "01120610 07L 6/6/6 NR/NR/NR\n01120640 18L 6/6/6 DRY/DRY/DRY\n";
         assert_eq!(told, format!("OPEN\n0\n20\n22\n0\n18\n26\n5\n5\n23\n{shown}"));
+    }
+
+    /// What the board of `shift` stores at its opening and after each report.
+    fn stored(reports: &[Report]) -> Vec<u32> {
+        stored_times(&Shift { reports: reports.to_vec(), ..shift() }).expect("a board")
+    }
+
+    #[test]
+    fn the_stored_time_is_the_latest_of_the_rows_shown() {
+        assert_eq!(stored(&[]), [0]);
+        let reports = [
+            // Refused while none is shown, by 5, 18, 22 and 23.
+            report(1, "01120700"),
+            report(1, "01120700 07 6/6/6 NR/NR/NR"),
+            report(2, "01120700 07L 6/6/6 NR/NR/NR"),
+            report(3, "01120700 07L 6/6/6 NR/NR/NR"),
+            report(2, "01120640 08L 6/6/6 NR/NR/NR"),
+            // Of other runways: earlier, equal, later; then the first one's again, up to the latest and over it.
+            report(1, "01120639 07L 6/6/6 NR/NR/NR"),
+            report(1, "01120640 18L 6/6/6 NR/NR/NR"),
+            report(1, "12310000 18L 6/6/6 NR/NR/NR"),
+            report(1, "01120640 07L 6/6/6 NR/NR/NR"),
+            report(2, "12312359 08L 6/6/6 NR/NR/NR"),
+            // Refused by 20, 22, 18 and 24.
+            report(2, "12312359 08L 6/6/6 NR/NR/NR"),
+            report(1, "12312359 08L 6/6/6 NR/NR/NR"),
+            report(1, "12312359 09 6/6/6 NR/NR/NR"),
+            report(1, "12312359 19 6/6/6 NR/NR/NR"),
+        ];
+        let (early, late, last) = (1_120_640, 12_310_000, 12_312_359);
+        let times = [0, 0, 0, 0, 0, early, early, early, late, late, last, last, last, last, last];
+        assert_eq!(stored(&reports), times);
+        assert!(stored_times(&Shift { count: 9, ..shift() }).is_none());
+    }
+
+    #[test]
+    fn the_stored_time_is_the_same_in_whatever_order_it_is_reported() {
+        let reports = [
+            report(1, "01120640 07L 6/6/6 NR/NR/NR"),
+            report(1, "01120641 07L 6/6/6 NR/NR/NR"),
+            report(2, "01120639 08L 6/6/6 NR/NR/NR"),
+            report(1, "01120642 08L 6/6/6 NR/NR/NR"),
+        ];
+        for first in 0..4 {
+            let mut turned = reports.to_vec();
+            turned.rotate_left(first);
+            assert_eq!(stored(&turned).last(), Some(&1_120_641));
+            turned.reverse();
+            assert_eq!(stored(&turned).last(), Some(&1_120_641));
+        }
     }
 
     #[test]

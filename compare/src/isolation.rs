@@ -1,5 +1,5 @@
 //! Each desk is alone with its runways: what the other one sends, or what no desk sends, changes neither the answers to its
-//! reports nor the rows of its runways.
+//! reports nor the rows of its runways. The time that the board stores is not told to a desk: it may depend on the other.
 use crate::desk::{desk, Owned};
 use crate::generate::{self, is_sent_by, Rng, TwoRuns};
 use crate::report::Report;
@@ -47,12 +47,13 @@ pub fn check(rng: &mut Rng, report: &mut Report) {
 #[cfg(test)]
 mod tests {
     use super::*;
+    use crate::desk::{stored_times, Shift};
 
     const LIST: &[u8] = b"XQAA 07L/1 07R/2\n";
 
     #[test]
     fn what_a_desk_is_told() {
-        let list = crate::desk::Shift::read(LIST).expect("a board").list;
+        let list = Shift::read(LIST).expect("a board").list;
         let row = |time: &str, runway: &str| format!("{time} {runway} 6/6/6 NR/NR/NR");
         let (left, right) = (row("01120640", "07L"), row("01120641", "07R"));
         let input = format!("XQAA 07L/1 07R/2\n1 {left}\n2 {left}\n2 {right}\n1 {left}\n1 X\nX\n3 {right}\n");
@@ -79,5 +80,19 @@ mod tests {
             Told::new(&inputs[0], 3 - desk, &list) != Told::new(&inputs[1], 3 - desk, &list)
         });
         assert!(differing.count() >= 700);
+    }
+
+    #[test]
+    fn the_stored_time_may_depend_on_the_other_desk() {
+        let mut rng = Rng::new(1);
+        let stored = |input: &[u8]| {
+            let shift = Shift::read(input).expect("a board");
+            stored_times(&shift).and_then(|times| times.last().copied())
+        };
+        let differing = (0..1000).filter(|_| {
+            let TwoRuns { inputs, .. } = generate::two_runs(&mut rng);
+            stored(&inputs[0]) != stored(&inputs[1])
+        });
+        assert!(differing.count() >= 200);
     }
 }

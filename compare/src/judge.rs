@@ -30,6 +30,12 @@ pub fn is_board(board: &Board) -> bool {
         && board.owners[count..].iter().all(|&owner| owner == 0)
         && board.rows[..count].iter().zip(&runways).all(|(row, runway)| is_blank(row) || is_row_of(row, runway))
         && board.rows[count..].iter().all(is_blank)
+        && board.latest == latest(board)
+}
+
+/// The time that a board has to store.
+fn latest(board: &Board) -> u32 {
+    board.rows.iter().filter(|row| !is_blank(row)).map(|row| row.time).max().unwrap_or(0)
 }
 
 pub fn is_blank(row: &library::Row) -> bool {
@@ -45,7 +51,10 @@ fn is_row_of(row: &library::Row, runway: &Runway) -> bool {
 pub fn report(board: &Board, desk: u32, row: &library::Row) -> Answer {
     let mut answer = Answer { refusal: 0, board: *board };
     match place(board, desk, row) {
-        Ok(place) => answer.board.rows[place] = *row,
+        Ok(place) => {
+            answer.board.rows[place] = *row;
+            answer.board.latest = latest(&answer.board);
+        }
         Err(refusal) => answer.refusal = refusal,
     }
     answer
@@ -106,11 +115,12 @@ mod tests {
         board.runways[1] = library::Runway { number: 7, side: 3 };
         board.owners[..2].copy_from_slice(&[1, 2]);
         board.rows[1] = row(b"01120640 07R 6/6/6 DRY/DRY/DRY");
+        board.latest = 1_120_640;
         board
     }
 
     /// Each alone breaks a rule of a board that keeps them all.
-    const BREACHES: [fn(&mut Board); 14] = [
+    const BREACHES: [fn(&mut Board); 21] = [
         |board| board.aerodrome[3] = b'a',
         |board| board.count = 0,
         |board| board.count = 1,
@@ -125,15 +135,53 @@ mod tests {
         |board| board.owners[2] = 1,
         |board| board.rows.swap(0, 1),
         |board| board.rows[0].width = 1,
+        // The stored time: off by one, none, that of a row not shown any more, that of the earlier row, later than all.
+        |board| board.latest -= 1,
+        |board| board.latest += 1,
+        |board| board.latest = 0,
+        |board| board.rows[1] = library::Row::default(),
+        |board| {
+            board.rows[0] = row(b"01120639 07L 6/6/6 DRY/DRY/DRY");
+            board.latest = 1_120_639;
+        },
+        |board| board.rows[0] = row(b"01120641 07L 6/6/6 DRY/DRY/DRY"),
+        |board| board.latest = u32::MAX,
     ];
 
+    /// Neither reported to nor written; what else is wrong with the call comes behind.
     #[test]
     fn the_rules_of_a_board() {
         assert!(is_board(&board()));
+        let later = row(b"01120642 07R 6/6/6 DRY/DRY/DRY");
         for (place, breach) in BREACHES.iter().enumerate() {
             let mut board = board();
             breach(&mut board);
             assert!(!is_board(&board), "breach {place}");
+            assert_eq!(report(&board, 2, &later), Answer { refusal: 17, board }, "breach {place}");
+            let written = notice(&board, &Details::default(), &Items::default(), &Language::default());
+            assert_eq!(written, Err(17), "breach {place}");
+        }
+    }
+
+    #[test]
+    fn the_stored_time_is_the_latest_of_the_rows_shown() {
+        let none = Board { rows: Default::default(), latest: 0, ..board() };
+        assert!(is_board(&none));
+        let told = |board: &Board, desk, text: &[u8]| report(board, desk, &row(text)).board.latest;
+        assert_eq!(told(&none, 1, b"01010000 07L 6/6/6 DRY/DRY/DRY"), 1_010_000);
+        assert_eq!(told(&none, 2, b"01010000 07L 6/6/6 DRY/DRY/DRY"), 0);
+        assert_eq!(told(&board(), 1, b"01120639 07L 6/6/6 DRY/DRY/DRY"), 1_120_640);
+        assert_eq!(told(&board(), 1, b"01120640 07L 6/6/6 DRY/DRY/DRY"), 1_120_640);
+        assert_eq!(told(&board(), 1, b"01120641 07L 6/6/6 DRY/DRY/DRY"), 1_120_641);
+        assert_eq!(told(&board(), 2, b"12312359 07R 6/6/6 DRY/DRY/DRY"), 12_312_359);
+        // Refused, by 20, 22, 18 and 23.
+        for (desk, text) in [
+            (2, &b"01120640 07R 6/6/6 DRY/DRY/DRY"[..]),
+            (1, b"01120641 07R 6/6/6 DRY/DRY/DRY"),
+            (1, b"01120641 07 6/6/6 DRY/DRY/DRY"),
+            (3, b"01120641 07R 6/6/6 DRY/DRY/DRY"),
+        ] {
+            assert_eq!(told(&board(), desk, text), 1_120_640, "{desk}");
         }
     }
 

@@ -4,7 +4,7 @@ use crate::items::{self, Item};
 use crate::places::runway_place;
 use crate::refused::Refused;
 use crate::row::{read_time, Row};
-use crate::text::{digits, exactly, groups, letters, placed_lines, split, Line};
+use crate::text::{digits, exactly, groups, letters, lines, placed_lines, split, Line};
 
 pub const LONGEST_MESSAGE: usize = 4096;
 pub const MOST_ADDRESSES: usize = 8;
@@ -187,6 +187,11 @@ fn heading(line: &[u8]) -> Option<([u8; 2], u32, [u8; 4], u32)> {
     let [number, aerodrome, time] = exactly(line)?;
     let (region, serial) = split(number.strip_prefix(b"SW")?, 2)?;
     Some((letters(region)?, read_serial(serial)?, letters(aerodrome)?, read_time(time)?))
+}
+
+/// The time that a message's heading bears, whatever its rows say; none where line 3 is missing or wrong.
+pub fn heading_time(message: &[u8]) -> Option<u32> {
+    lines(message).get(2).and_then(|line| heading(line)).map(|(.., time)| time)
 }
 
 /// Line 4: the serial again.

@@ -4,15 +4,15 @@ mod places;
 use std::io;
 
 use crate::assess::{agreement, assess};
-use crate::desk::{self, desk, live, notice};
+use crate::desk::{self, desk, live, notice, stored_times, Shift};
 use crate::edges;
 use crate::generate::{self, Rng, Sample};
 use crate::isolation;
 use crate::models;
-use crate::reader::{read, same, write, Record, LONGEST_MESSAGE};
+use crate::reader::{heading_time, read, same, write, Record, LONGEST_MESSAGE};
 use crate::refused::Refused;
 use crate::report::{Report, OF_MESSAGES, OF_ROWS};
-use crate::row::{Row, Runway, Third};
+use crate::row::{read_time, Row, Runway, Third};
 use crate::text::lines;
 
 fn message(rng: &mut Rng, report: &mut Report) {
@@ -71,7 +71,8 @@ fn numbers(rng: &mut Rng, report: &mut Report) {
     }
 }
 
-/// A notice reads back as its model but for the aerodrome and the rows, which are those that the desk prints.
+/// A notice reads back as its model but for the aerodrome and the rows, which are those that the desk prints. Its heading
+/// bears the time that the board stores.
 fn board_notice(rng: &mut Rng, report: &mut Report) {
     let (input, model) = generate::board_notice(rng);
     let told = notice(&input, &model);
@@ -83,12 +84,14 @@ fn board_notice(rng: &mut Rng, report: &mut Report) {
     let printed = desk(&input);
     // An answer has one or two digits, and any row is longer.
     let shown = lines(&printed).into_iter().skip(1).filter(|line| line.len() > 2);
+    let stored = Shift::read(&input).and_then(|shift| stored_times(&shift)?.pop());
     let fits = match (read(&text), read(&model)) {
         (Ok(record), Ok(model)) => {
             let rows = record.rows.iter().map(|row| row.text().into_bytes());
             text.len() <= LONGEST_MESSAGE
                 && input.starts_with(&record.aerodrome)
                 && rows.eq(shown)
+                && heading_time(&text) == stored
                 && model == Record { aerodrome: model.aerodrome, rows: model.rows.clone(), ..record }
         }
         _ => false,
@@ -108,6 +111,7 @@ fn shift(rng: &mut Rng, report: &mut Report) {
         report.count(17);
         return;
     }
+    stored(&shift, &told, report);
     let mut input = generate::opening_line(&shift.aerodrome, &shift.list[..usize::from(shift.count)]);
     for sent in shift.reports {
         // Not LF alone, before which a CR of the line would be no text.
@@ -119,6 +123,22 @@ fn shift(rng: &mut Rng, report: &mut Report) {
     count_answers(&told, report);
     if told != expected {
         report.differ("shift", &input, &expected.escape_ascii().to_string(), &told.escape_ascii().to_string());
+    }
+}
+
+/// The stored time rises with a later report that is taken, and nothing else changes it: so it never falls.
+fn stored(shift: &Shift, told: &[u8], report: &mut Report) {
+    let mut latest = 0;
+    let mut expected = vec![latest];
+    for (sent, &answer) in shift.reports.iter().zip(&lines(told)[1..]) {
+        if answer == b"0" {
+            latest = sent.line.get(..8).and_then(read_time).map_or(latest, |time| latest.max(time));
+        }
+        expected.push(latest);
+    }
+    let times = stored_times(shift);
+    if times.as_ref() != Some(&expected) {
+        report.differ_on("stored times", &format!("{shift:?}"), &format!("{expected:?}"), &format!("{times:?}"));
     }
 }
 

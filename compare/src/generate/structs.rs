@@ -41,8 +41,12 @@ pub fn damage_record(rng: &mut Rng, record: &mut Record) {
     }
 }
 
-/// One field or byte changed, or runways, owners or rows put elsewhere.
+/// One field or byte changed, or runways, owners or rows put elsewhere. Half of the time the stored time is then that of the
+/// rows again, so that what else is wrong shows alone.
 pub fn damage_board(rng: &mut Rng, board: &mut Board) {
+    if rng.chance(25) {
+        return damage_latest(rng, board);
+    }
     let used = usize::from(board.count);
     let (one, other) = (place(rng, used, 8), place(rng, used, 8));
     match rng.below(15) {
@@ -60,6 +64,20 @@ pub fn damage_board(rng: &mut Rng, board: &mut Board) {
         10 => board.owners[one] = rng.pick(&[0, 1, 2, 3, 255]),
         _ => damage_row(rng, &mut board.rows[one]),
     }
+    if rng.chance(50) {
+        board.latest = board.rows.iter().map(|row| row.time).max().unwrap_or(0);
+    }
+}
+
+/// A time next to the stored one or otherwise near it, none, that of a row, or one later than all.
+fn damage_latest(rng: &mut Rng, board: &mut Board) {
+    board.latest = match rng.below(5) {
+        0 => board.latest.wrapping_add(rng.pick(&[1, u32::MAX])),
+        1 => number(rng, board.latest),
+        2 => 0,
+        3 => board.rows[place(rng, board.count.into(), 8)].time,
+        _ => rng.pick(&[12_312_359, 99_999_999, u32::MAX]),
+    };
 }
 
 /// Mostly one of the places in use.
@@ -185,6 +203,7 @@ fn damage_language(rng: &mut Rng, language: &mut Language) {
 mod tests {
     use super::*;
     use crate::generate::record;
+    use crate::library::Runway;
     use crate::{judge, reader, structs};
 
     const ALL: usize = 2000;
@@ -210,5 +229,65 @@ mod tests {
             valid += usize::from(judge::text(&told).is_some());
         }
         assert!((ALL / 10..ALL / 2).contains(&valid), "{valid}");
+    }
+
+    /// A board of a record's runways, with some of its rows or none.
+    fn board(rng: &mut Rng) -> Board {
+        let Record { title, rows, .. } = Record::from(&record(rng));
+        let count = usize::from(rows.count);
+        let mut listed = rows.rows;
+        listed[..count].sort_by_key(|row| (row.number, row.side));
+        let mut board = Board { aerodrome: title.aerodrome, count: rows.count, ..Default::default() };
+        let shown = rng.pick(&[0, 50, 100]);
+        for (place, row) in listed[..count].iter().enumerate() {
+            board.runways[place] = Runway { number: row.number, side: row.side };
+            board.owners[place] = rng.pick(&[1, 2]);
+            if rng.chance(shown) {
+                board.rows[place] = *row;
+                board.latest = board.latest.max(row.time);
+            }
+        }
+        board
+    }
+
+    #[test]
+    fn damage_leaves_some_boards_valid() {
+        let mut rng = Rng::new(1);
+        let mut valid = 0;
+        for _ in 0..ALL {
+            let mut board = board(&mut rng);
+            assert!(judge::is_board(&board), "{board:?}");
+            damage_board(&mut rng, &mut board);
+            valid += usize::from(judge::is_board(&board));
+        }
+        assert!((ALL / 10..ALL / 2).contains(&valid), "{valid}");
+    }
+
+    /// Each way a stored time can be wrong is met where nothing else is.
+    #[test]
+    fn each_wrong_stored_time_is_met_alone() {
+        let mut rng = Rng::new(1);
+        let mut met = [0; 6];
+        for _ in 0..ALL {
+            let good = board(&mut rng);
+            let mut bad = good;
+            damage_board(&mut rng, &mut bad);
+            let Board { latest, .. } = bad;
+            if latest == good.latest || bad != (Board { latest, ..good }) {
+                continue;
+            }
+            assert!(!judge::is_board(&bad), "{bad:?}");
+            let shown = good.latest != 0;
+            let ways = [
+                shown && latest == good.latest + 1,
+                shown && latest == good.latest - 1,
+                shown && latest == 0,
+                !shown && crate::row::is_real_time(latest),
+                latest != 0 && good.rows.iter().any(|row| row.time == latest),
+                latest > 12_312_359,
+            ];
+            met.iter_mut().zip(ways).for_each(|(count, way)| *count += usize::from(way));
+        }
+        assert!(met.iter().all(|&count| count >= ALL / 200), "{met:?}");
     }
 }

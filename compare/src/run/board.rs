@@ -4,7 +4,7 @@ use crate::desk::{self, Report, Shift};
 use crate::generate;
 use crate::judge;
 use crate::library::{self, Answer, Board, Record, Row, RunwayList};
-use crate::reader::LONGEST_MESSAGE;
+use crate::reader::{heading_time, LONGEST_MESSAGE};
 
 /// Senders: the desks, and numbers that are none, among them what would be a desk if it were cut down to fewer bits.
 const SENDERS: [u32; 14] = [1, 1, 1, 1, 2, 2, 2, 2, 0, 3, 257, 258, 65_537, u32::MAX];
@@ -38,6 +38,9 @@ impl Run {
             self.writes("a live board's notice", &both, expected, |out| {
                 library::write_board(&board, &details, &items, &language, out)
             });
+            if let Ok(text) = expected {
+                self.agree("the heading time of a notice", &both, heading_time(text), Some(board.latest));
+            }
         }
     }
 
@@ -51,7 +54,8 @@ impl Run {
         }
     }
 
-    /// Opens a board, and reports each line that is a row. Every board that comes of it keeps the rules.
+    /// Opens a board, and reports each line that is a row. Every board that comes of it keeps the rules and stores the time
+    /// of the row observed last.
     fn live(&mut self, shift: &Shift) -> Option<Live> {
         let list = RunwayList {
             count: shift.count,
@@ -65,10 +69,12 @@ impl Run {
             return None;
         }
         self.agree("an opened board", shift, true, library::valid_board(&board));
-        let mut answers = Vec::new();
+        let (mut answers, mut stored) = (Vec::new(), vec![board.latest]);
         for report in &shift.reports {
             answers.push(self.report_line(&mut board, report));
+            stored.push(board.latest);
         }
+        self.agree("the stored times", shift, desk::stored_times(shift), Some(stored));
         Some(Live { board, answers })
     }
 
@@ -117,8 +123,8 @@ impl Run {
         });
     }
 
-    /// A row that may be invalid, mostly of one of the board's runways and observed about when the row shown was, and who
-    /// sends it: its owner, or anyone.
+    /// A row that may be invalid, mostly of one of the board's runways and observed about when the row shown or the one
+    /// observed last was, and who sends it: its owner, or anyone.
     fn row_for(&mut self, board: &Board) -> (u32, Row) {
         let mut row = Row::from(&generate::numbers(&mut self.rng));
         let place = self.rng.below(board.count.into());
@@ -126,7 +132,8 @@ impl Run {
             (row.number, row.side) = (board.runways[place].number, board.runways[place].side);
         }
         if self.rng.chance(50) {
-            row.time = board.rows[place].time.wrapping_add(self.rng.pick(&[0, 1, u32::MAX]));
+            let time = self.rng.pick(&[board.rows[place].time, board.latest]);
+            row.time = time.wrapping_add(self.rng.pick(&[0, 1, u32::MAX]));
         }
         let desk = if self.rng.chance(50) { board.owners[place].into() } else { self.rng.pick(&SENDERS) };
         (desk, row)

@@ -4,8 +4,9 @@
 //!
 //! It is used and answers as examples/terminal.c. The runways stand in rising order, each with the desk that owns it, 1 or 2, as 07L/1 07R/2.
 //! Reports are runway rows on standard input, one a line, each behind the digit of the desk that sends it and one space; lines end with LF or
-//! CR LF, and the last may lack its end. Each is answered on standard error: taken, with the row as the board shows it now, or refused. At the
-//! end the notice goes to standard output, with the heading details, items and plain language of the message in the file MODEL.
+//! CR LF, and the last may lack its end. Each is answered on standard error: taken, with the row as the board shows it now, or refused; the
+//! time of the newest observation shown follows. At the end the notice goes to standard output, with the heading details, items and plain
+//! language of the message in the file MODEL.
 //!
 //! The exit status is 0 where the notice is written, 1 where the board, the model or the notice is refused, and 2 for wrong use or where
 //! reading or writing fails. A refused report changes neither the board nor the status.
@@ -140,6 +141,9 @@ fn take_reports(board: &mut Board) -> io::Result<()> {
             }
             Err(n) => writeln!(answers, "line {number}: refused {n}, {}", words(n))?,
         }
+    }
+    if board.latest != 0 {
+        writeln!(answers, "newest {:08}", board.latest)?;
     }
     Ok(())
 }
