@@ -1,6 +1,6 @@
 /*
  * Phengaryl: runway notices (SNOWTAM) read, written, compared, assessed and kept on a board that two desks share, exactly as document 01 and
- * requests 1 and 2 of document 02 say.
+ * requests 1 to 3 of document 02 say.
  *
  * Every function here is proved to keep the promise that its comment gives in plain words; crates/phengaryl/src/lib.rt has it in full.
  * The functions keep nothing between calls, take no memory from the heap, print nothing and always return, so any thread may call them.
@@ -25,7 +25,7 @@ extern "C" {
 #endif
 
 /* The version of this interface. The first number grows with every change that a program has to be compiled anew for. */
-#define PHENGARYL_VERSION "3.0.0"
+#define PHENGARYL_VERSION "4.0.0"
 
 /* A longer message is refused (1), and the canonical text of an accepted one is never longer. */
 #define PHENGARYL_LONGEST_TEXT 4096
@@ -349,7 +349,7 @@ phengaryl_answer phengaryl_report(phengaryl_board board, uint32_t desk, phengary
 bool phengaryl_valid_board(phengaryl_board board);
 
 /*
- * Writes a board as a notice: its rows in board order, with the heading time worked out. 17 where the board breaks its rules, 21 where it
+ * Writes a board as a notice: its rows in board order, with the stored time in the heading. 17 where the board breaks its rules, 21 where it
  * holds no report, 13 where the details, items or plain language are not valid, 14 where the buffer is too short.
  * Later bytes of `out` stay as they were. PHENGARYL_LONGEST_TEXT bytes always suffice.
  */

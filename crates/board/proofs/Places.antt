@@ -1,6 +1,6 @@
 -- One law for each case of a step of the loops over places.
 use Prim.Native.Nat.{ℕ, suc, _+_, _<_, _≤_}
-use mathlib.Core.Path.{_≡_, refl, sym, _∙_, ap}
+use mathlib.Core.Path.{_≡_, refl, sym, subst, _∙_, ap}
 use mathlib.Core.List.{List, [], _∷_}
 use mathlib.Core.Bool.{cond, Bool, true, false}
 use lib.Dec.{ltb}
@@ -10,10 +10,12 @@ use native.Mathlib.Omega.{arith}
 use Rattle.text.specs.Choice.{_and_, all}
 use Rattle.text.specs.Laws.Arrays.{next-place, next-used, none-left}
 use Rattle.row.specs.declared.Row.{Row}
-use Rattle.row.specs.Row.{isBlankRow}
+use Rattle.row.specs.Row.{blankRow, isBlankRow}
 use Rattle.board.specs.declared.Runway.{Runway}
 use Rattle.board.specs.Board.{places, isAerodrome, blankRunway, isBlankRunway, rises, rising, validList, names, fitsPlace, fitPlaces}
-use Rattle.board.specs.Report.{placeOf}
+use Rattle.board.specs.Report.{placeOf, newest}
+use Rattle.board.specs.Laws.Rules.{getD-any}
+use Rattle.board.specs.Laws.Latest.{Goods, Upto, upto-next}
 
 -- the first n runways of ws, looked at one by one
 module _ (n : ℕ) (ws : List Runway) (i : ℕ) where
@@ -110,6 +112,12 @@ module _ (n : ℕ) (ws : List Runway) (rs : List Row) (i : ℕ) (d : Row) where
   pub fit-off : i < length ws → i < length rs → fits ≡ false → false ≡ fitPlaces (drop i (take n ws)) (drop i rs)
   unfolding _and_
   fit-off f h e = sym (fit-next f h ∙ rw e)
+
+-- the latest time of the places looked at: t before the place i, u with it
+pub time-next : (rs : List Row) (d : Row) (i t u : ℕ) → Goods rs → i < length rs → Upto rs i t
+    → u ≡ cond (isBlankRow (getD rs i d)) t (newest t (getD rs i d .time)) → Upto rs (i + 1) u
+time-next rs d i t u g l k e =
+    subst (Upto rs (i + 1)) (sym (e ∙ ap (λ p. cond (isBlankRow p) t (newest t (p .time))) (getD-any d blankRow rs i l))) (upto-next rs i t g l k)
 
 pub fit-end : (ws : List Runway) (rs : List Row) (i : ℕ) → length rs ≤ i → true ≡ fitPlaces ws (drop i rs)
 unfolding fitPlaces

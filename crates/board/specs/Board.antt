@@ -9,6 +9,7 @@ use Rattle.text.specs.Arrays.{isZero}
 use Rattle.runway.specs.Runway.{validRunway}
 use Rattle.row.specs.declared.Row.{Row}
 use Rattle.row.specs.Row.{highestRunway, validRow, blankRow, isBlankRow}
+use Rattle.body.specs.Rows.{latest}
 use Rattle.frontlines.specs.Letters.{isLetters}
 use Rattle.frontlines.specs.Heading.{aerodromeSize}
 use Rattle.board.specs.declared.Runway.{Runway}
@@ -85,9 +86,19 @@ validPlaces count runways rows = eqb (length rows) places and fitPlaces (take co
 abbrev pub runwaysOf : Board → List Runway
 runwaysOf b = take (b .count) (b .runways)
 
--- the board's rules
+-- the rows shown, in board order
+unfoldable pub reported : List Row → List Row
+reported [] = []
+reported (r ∷ rs) = cond (isBlankRow r) (reported rs) (r ∷ reported rs)
+
+-- the latest time of the rows shown: "with a mark for none", 0
+unfoldable pub latestShown : List Row → ℕ
+latestShown rows = latest (reported rows)
+
+-- the board's rules: also the stored time is that of the rows
 unfoldable pub validBoard : Board → Bool
 validBoard b = validOpening (b .aerodrome) (b .count) (b .runways) (b .owners) and validPlaces (b .count) (b .runways) (b .rows)
+    and eqb (b .latest) (latestShown (b .rows))
 
 -- nothing reported
 abbrev pub noRows : List Row
@@ -100,12 +111,13 @@ blankBoard = record {
   count = 0;
   runways = replicate places blankRunway;
   owners = replicate places 0;
+  latest = 0;
   rows = noRows;
 }
 
 -- a board with nothing reported
 abbrev pub fresh : List ℕ → ℕ → List Runway → List ℕ → Board
-fresh aerodrome count runways owners = record { aerodrome = aerodrome; count = count; runways = runways; owners = owners; rows = noRows }
+fresh aerodrome count runways owners = record { aerodrome = aerodrome; count = count; runways = runways; owners = owners; latest = 0; rows = noRows }
 
 -- a refusal number, 0 for taken, and the board afterwards
 abbrev pub answer : ℕ → Board → Answer

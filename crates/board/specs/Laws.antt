@@ -1,4 +1,6 @@
 pub mod Aerodrome
+pub mod Rows
+pub mod Latest
 pub mod Rules
 pub mod Alone
 pub mod Shows

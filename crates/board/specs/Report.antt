@@ -8,6 +8,7 @@ use Rattle.text.specs.Choice.{_else_, firstFailing}
 use Rattle.runway.specs.Time.{later}
 use Rattle.row.specs.declared.Row.{Row}
 use Rattle.row.specs.Row.{validRow, blankRow, isBlankRow}
+use Rattle.body.specs.Rows.{latestOf}
 use Rattle.text.specs.Refusals.{notLater, notOnBoard, invalidRow, wrongBoard, othersRunway, noDesk}
 use Rattle.board.specs.declared.Runway.{Runway}
 use Rattle.board.specs.declared.Board.{Board}
@@ -48,9 +49,20 @@ refusal b desk r =
     ∷ isNews r (rowAt b i) else notLater
     ∷ []) 0
 
--- the board with one place stored
+-- of a stored time and a report's the later: "Store it in the board"; a first report's is its own
+unfoldable pub newest : ℕ → ℕ → ℕ
+newest t s = cond (eqb t 0) s (latestOf t s)
+
+-- the board with one place stored, and the latest time
 abbrev pub stored : Board → ℕ → Row → Board
-stored b i r = record { aerodrome = b .aerodrome; count = b .count; runways = b .runways; owners = b .owners; rows = set (b .rows) i r }
+stored b i r = record {
+  aerodrome = b .aerodrome;
+  count = b .count;
+  runways = b .runways;
+  owners = b .owners;
+  latest = newest (b .latest) (r .time);
+  rows = set (b .rows) i r;
+}
 
 -- the board after a report: as it was when refused
 unfoldable pub report : Board → ℕ → Row → Answer

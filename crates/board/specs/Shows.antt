@@ -6,7 +6,7 @@ use mathlib.Core.Bool.{cond, true, false}
 use lib.ListN.{getD}
 use Rattle.runway.specs.Time.{later}
 use Rattle.row.specs.declared.Row.{Row}
-use Rattle.row.specs.Row.{validRow, isBlankRow}
+use Rattle.row.specs.Row.{validRow, blankRow, isBlankRow}
 use Rattle.board.specs.declared.Runway.{Runway}
 use Rattle.board.specs.declared.Board.{Board}
 use Rattle.board.specs.Board.{names, blankRunway}
@@ -58,3 +58,10 @@ pub data Shows (w : Runway) (o : ℕ) (xs : List Sent) : Shown → Type 0 where
 -- no two different valid reports for the runway bear the same time
 abbrev pub Apart : Runway → ℕ → List Sent → Type 0
 Apart w o xs = (x y : Sent) → x isIn xs → y isIn xs → ReportFor w o x → ReportFor w o y → x .row .time ≡ y .row .time → x ≡ y
+
+-- the latest time of the rows shown: 0 where no place shows one, else that of a row shown, and no row shown is later
+pub data IsLatest (rows : List Row) : ℕ → Type 0 where
+  none-shown : ((i : ℕ) → isBlankRow (getD rows i blankRow) ≡ true) → IsLatest rows 0
+  shown-at : (i : ℕ) → isBlankRow (getD rows i blankRow) ≡ false
+      → ((j : ℕ) → isBlankRow (getD rows j blankRow) ≡ false → later (getD rows j blankRow .time) (getD rows i blankRow .time) ≡ false)
+      → IsLatest rows (getD rows i blankRow .time)

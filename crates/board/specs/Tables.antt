@@ -13,12 +13,13 @@ use Rattle.surface.specs.Descriptions.{isContaminant, isDeep, notReported, dry}
 use Rattle.surface.specs.Third.{third, isBlankThird, isCoverage, validCoverage, leastDepth, isReported, validDepth, validThird}
 use Rattle.row.specs.declared.Row.{Row}
 use Rattle.row.specs.Row.{blankRow, threeThat, isBlankRow, validRow}
+use Rattle.body.specs.Rows.{latestOf, latestFrom, latest}
 use Rattle.frontlines.specs.Letters.{isLetters}
 use Rattle.board.specs.declared.Runway.{Runway}
 use Rattle.board.specs.declared.Board.{Board}
 use Rattle.board.specs.Board.{places, blankRunway, isBlankRunway, comesBefore, rises, rising, isAerodrome, validList, names, fitsPlace, fitPlaces}
-use Rattle.board.specs.Board.{validPlaces, isDesk, validOwners, validOpening, validBoard, blankBoard, fresh, answer, opening}
-use Rattle.board.specs.Report.{placeOf, isNews, refusal, report}
+use Rattle.board.specs.Board.{validPlaces, isDesk, validOwners, reported, latestShown, validOpening, validBoard, blankBoard, fresh, answer, opening}
+use Rattle.board.specs.Report.{placeOf, isNews, refusal, newest, report}
 use Rattle.board.specs.declared.Sent.{Sent}
 use Rattle.board.specs.Runs.{_sends_, reports, from, answersTo}
 
@@ -104,9 +105,18 @@ abbrev answers : Board → List Sent → List ℕ
 answers b [] = []
 answers b (x ∷ xs) = report b (x .desk) (x .row) .refusal ∷ answers (report b (x .desk) (x .row) .board) xs
 
--- a board that holds these rows
+-- the stored times of a board and after each report
+abbrev timesOf : Board → List Sent → List ℕ
+timesOf b [] = b .latest ∷ []
+timesOf b (x ∷ xs) = b .latest ∷ timesOf (report b (x .desk) (x .row) .board) xs
+
+-- a board that stores a time and holds these rows
+abbrev pub storing : ℕ → List Row → Board
+storing t rs = record { aerodrome = bytes "XQAA"; count = 2; runways = pair; owners = owned (1 ∷ 2 ∷ []); latest = t; rows = pad places blankRow rs }
+
+-- and one that stores their latest
 abbrev pub holding : List Row → Board
-holding rs = record { aerodrome = bytes "XQAA"; count = 2; runways = pair; owners = owned (1 ∷ 2 ∷ []); rows = pad places blankRow rs }
+holding rs = storing (latestShown (pad places blankRow rs)) rs
 
 abbrev pub left : Row
 left = dryRow 1120610 7 1
@@ -138,7 +148,7 @@ pub record Reports : Type 0 where
   order-18 : answers board (1 sends elsewhere ∷ 2 sends elsewhere ∷ []) ≡ 18 ∷ 18 ∷ []
   order-22 : answers (holding (left ∷ [])) (2 sends left ∷ 2 sends dryRow 1120611 7 1 ∷ 1 sends left ∷ []) ≡ 22 ∷ 22 ∷ 20 ∷ []
   -- the row is stored in its own runway's place, and a refused report leaves the board as it was, owners included
-  stored : report board 2 right ≡ answer 0 (holding (blankRow ∷ right ∷ []))
+  stored : report board 2 right ≡ answer 0 (storing 1120640 (blankRow ∷ right ∷ []))
   stays : report (holding (left ∷ [])) 1 left ≡ answer 20 (holding (left ∷ []))
   others : report board 1 right ≡ answer 22 board
   nobody : report board 0 right ≡ answer 23 board
@@ -155,16 +165,27 @@ pub record Reports : Type 0 where
       ∷ replicate 9 blankRow ∷ []) ≡ false ∷ false ∷ false ∷ false ∷ []
   owner-rules : map (λ os. validBoard (fresh (bytes "XQAA") 2 pair os)) (owned (1 ∷ 2 ∷ []) ∷ owned (1 ∷ 3 ∷ []) ∷ owned (1 ∷ []) ∷ owned (1 ∷ 2 ∷ 2 ∷ []) ∷ [])
       ≡ true ∷ false ∷ false ∷ false ∷ []
+  -- the stored time, after opening and then each report: the first, a later one, an earlier one of the other runway, refused ones
+  times-stored : timesOf board (1 sends left ∷ 1 sends dryRow 1120641 7 1 ∷ 2 sends right ∷ 1 sends dryRow 1120641 7 1 ∷ 1 sends right
+      ∷ 2 sends dryRow 1120642 7 3 ∷ [])
+      ≡ 0 ∷ 1120610 ∷ 1120641 ∷ 1120641 ∷ 1120641 ∷ 1120641 ∷ 1120642 ∷ []
+  newer : newest 0 1120610 ∷ newest 1 0 ∷ newest 1120610 1120609 ∷ newest 1120610 1120611 ∷ [] ≡ 1120610 ∷ 1 ∷ 1120610 ∷ 1120611 ∷ []
+  -- "A board handed in with a wrong stored time is refused by 17": by one too early or late, none, another row's, one without a row
+  time-rules : map (λ t. validBoard (storing t (left ∷ right ∷ []))) (1120640 ∷ 1120639 ∷ 1120641 ∷ 0 ∷ 1120610 ∷ [])
+      ≡ true ∷ false ∷ false ∷ false ∷ false ∷ []
+  no-time : map (λ t. validBoard (storing t [])) (0 ∷ 1 ∷ 1120610 ∷ []) ≡ true ∷ false ∷ false ∷ []
+  wrong-time : report (storing 1120611 (left ∷ [])) 2 right ≡ answer 17 (storing 1120611 (left ∷ []))
   -- "blank means all zero"
   blank : (blankBoard .aerodrome ≡ replicate 4 0) × (blankBoard .count ≡ 0) × (blankBoard .runways ≡ replicate 8 (record { number = 0; side = 0 }))
-      × (blankBoard .owners ≡ replicate 8 0) × (blankBoard .rows ≡ replicate 8 blankRow)
+      × (blankBoard .owners ≡ replicate 8 0) × (blankBoard .latest ≡ 0) × (blankBoard .rows ≡ replicate 8 blankRow)
   -- how many places stand before the runway that a row names
   places-of : map (placeOf left) ([] ∷ (runway 7 1 ∷ []) ∷ (runway 7 3 ∷ runway 7 1 ∷ []) ∷ (runway 7 3 ∷ []) ∷ []) ≡ 0 ∷ 0 ∷ 1 ∷ 1 ∷ []
 
 pub reporting : Reports
 unfolding _and_ isShortMonth daysOf realDay realClock realTime later validRunway isContaminant isDeep isCoverage validCoverage leastDepth isReported
     validDepth validThird isBlankThird threeThat isBlankRow validRow isLetters isAerodrome isBlankRunway comesBefore rises rising validList names fitsPlace
-    fitPlaces validPlaces isDesk validOwners validOpening validBoard placeOf isNews refusal report reports from answersTo
+    fitPlaces validPlaces isDesk validOwners latestOf latestFrom latest reported latestShown validOpening validBoard placeOf isNews refusal newest
+    report reports from answersTo
 reporting = record {
   times = refl;
   equal = refl;
@@ -187,6 +208,11 @@ reporting = record {
   neighbours = refl;
   zeros = refl;
   owner-rules = refl;
-  blank = (refl, refl, refl, refl, refl);
+  times-stored = refl;
+  newer = refl;
+  time-rules = refl;
+  no-time = refl;
+  wrong-time = refl;
+  blank = (refl, refl, refl, refl, refl, refl);
   places-of = refl;
 }

@@ -10,13 +10,14 @@ use native.Mathlib.Omega.{arith}
 use Rattle.row.specs.declared.Row.{Row}
 use Rattle.board.specs.declared.Runway.{Runway}
 use Rattle.board.specs.declared.Board.{Board}
-use Rattle.board.specs.Board.{blankRunway, isDesk, validOpening, validBoard, fresh, blankBoard, answer, opening}
+use Rattle.board.specs.Board.{blankRunway, isDesk, latestShown, runwaysOf, validOpening, validBoard, fresh, blankBoard, answer, opening}
 use Rattle.board.specs.Report.{placeFor, rowAt, refusal, stored, report}
 use Rattle.board.specs.declared.Sent.{Sent}
 use Rattle.board.specs.Runs.{reports, from, answersTo}
-use Rattle.board.specs.Shows.{shownAt, Shows, Apart}
+use Rattle.board.specs.Shows.{shownAt, Shows, Apart, IsLatest}
 use Rattle.board.specs.Laws.Shows.{shows-one, shows-moved, permuted}
-use Rattle.board.specs.Laws.Rules.{takes, reports-valid, SameList, same-trans, same-sym, reports-list}
+use Rattle.board.specs.Laws.Rules.{rules, goods, takes, reports-valid, SameList, same-trans, same-sym, reports-list}
+use Rattle.board.specs.Laws.Latest.{latest-is}
 use Rattle.board.specs.Laws.Step.{again-20, again-22}
 use Rattle.board.specs.Laws.Alone.{alike-self, answers-alone, rows-alone}
 use Rattle.board.specs.Laws.Demand.{shows-after, nothing-at, same-board, opened-fresh}
@@ -46,9 +47,23 @@ module _ (a : List ℕ) (n : ℕ) (ws : List Runway) (os : List ℕ) (b : Board)
       let o = opened-fresh a n ws os b taken .0 in
       (s .aerodrome ∙ ap (λ x. x .aerodrome) o, s .count ∙ ap (λ x. x .count) o, s .runways ∙ ap (λ x. x .runways) o, s .owners ∙ ap (λ x. x .owners) o)
 
+  -- the stored time is the latest of the rows shown, "true after opening and after each report, taken or refused"
+  pub time-right : (xs : List Sent) → reports b xs .latest ≡ latestShown (reports b xs .rows)
+  time-right xs = rules (reports b xs) (rules-hold xs) .latest
+
+  -- in other words: 0 where none is shown, else the time of a row shown, and no row shown is later
+  pub time-latest : (xs : List Sent) → IsLatest (reports b xs .rows) (reports b xs .latest)
+  time-latest xs =
+      let c = reports b xs in
+      subst (IsLatest (c .rows)) (sym (time-right xs)) (latest-is (c .rows) (goods (runwaysOf c) (c .rows) (rules c (rules-hold xs) .fit)))
+
+  -- it is told by the rows shown, so that what is shown in any order of the reports tells it too
+  pub time-order-free : (xs ys : List Sent) → reports b xs .rows ≡ reports b ys .rows → reports b xs .latest ≡ reports b ys .latest
+  time-order-free xs ys e = time-right xs ∙ (ap latestShown e ∙ sym (time-right ys))
+
   -- "Two runs in which only the other desk's reports differ must give a desk the same answers to its reports and the same rows for its runways": the desk d is
-  -- any number, and nothing is assumed of the reports that are not its own. What is made of both desks' rows may still depend on both: the notice's heading
-  -- time and length, 14 and 21.
+  -- any number, and nothing is assumed of the reports that are not its own. What is made of both desks' rows may still depend on both: the stored time,
+  -- the notice's heading time and length, 14 and 21.
   pub isolation : (d : ℕ) (xs ys : List Sent) → from d xs ≡ from d ys
       → (answersTo d b xs ≡ answersTo d b ys) × ((i : ℕ) → getD os i 0 ≡ d → rowAt (reports b xs) i ≡ rowAt (reports b ys) i)
   isolation d xs ys same =
@@ -80,7 +95,7 @@ module _ (a : List ℕ) (n : ℕ) (ws : List Runway) (os : List ℕ) (b : Board)
 
   -- reports of which no two different valid ones for a runway of the list bear the same time, in another order
   module _ (xs ys : List Sent) (moved : List·Permᴰ xs ys) (apart : (i : ℕ) → i < n → Apart (getD ws i blankRunway) (getD os i 0) xs) where
-    -- leave the same board
+    -- leave the same board, the stored time included
     pub order-free : reports b xs ≡ reports b ys
     order-free =
         let k = list-stays ys .1 in
@@ -88,7 +103,7 @@ module _ (a : List ℕ) (n : ℕ) (ws : List Runway) (os : List ℕ) (b : Board)
         (λ i l. shows-moved (getD ws i blankRunway) (getD os i 0) (permuted moved) (permuted (Permᴰ·symm moved)) (apart i (omega arith))
         (runway-shows xs i (omega arith)) (runway-shows ys i (omega arith)))
 
--- a refused report leaves the board as it was
+-- a refused report leaves the board as it was, the stored time included
 pub refused-stays : (b : Board) (d : ℕ) (r : Row) → (report b d r .refusal ≡ 0 → ⊥) → report b d r .board ≡ b
 unfolding report
 refused-stays b d r h = go (takes b d r) refl

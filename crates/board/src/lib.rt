@@ -7,8 +7,10 @@ ghost use lib.ListN.{take, drop};
 ghost use Rattle.text.specs.Choice.{all};
 ghost use mathlib.Core.Bool.{cond};
 ghost use Rattle.row.specs.Row.{isBlankRow};
-ghost use Rattle.board.specs.Board.{isAerodrome, blankRunway, isBlankRunway, comesBefore, rises, rising, validList, names, fitsPlace, validPlaces, isDesk, validOwners, validOpening, validBoard, blankBoard, opening, refusedOpening};
-ghost use Rattle.board.specs.Report.{placeOf, isNews, placeFor, refusal, report};
+ghost use Rattle.board.specs.Board.{isAerodrome, blankRunway, isBlankRunway, comesBefore, rises, rising, validList, names, fitsPlace, validPlaces, latestShown, isDesk, validOwners, validOpening, validBoard, blankBoard, opening, refusedOpening};
+ghost use Rattle.board.specs.Report.{placeOf, isNews, placeFor, refusal, newest, report};
+ghost use Rattle.board.specs.Laws.Latest.{Goods};
+use body::later_of;
 use frontlines::read_aerodrome;
 use row::HIGHEST_RUNWAY;
 use row::Row;
@@ -35,6 +37,8 @@ pub struct Board {
     pub runways: [Runway; 8],
     // the desk of each runway, 1 or 2
     pub owners: [u8; 8],
+    // the latest time of the rows shown, 0 where none is
+    pub latest: u32,
     pub rows: [Row; 8],
 }
 
@@ -245,6 +249,41 @@ fn valid_places(count: usize, runways: [Runway; 8], rows: [Row; 8]) -> bool
     true
 }
 
+// Of a stored time and a row's the later; where none is stored, the row's.
+fn newest(latest: u32, time: u32) -> u32
+    ensures { λ t. ⌜ t ≡ newest latest time ⌝ }
+{
+    if latest == 0 {
+        return time;
+    }
+    later_of(latest, time)
+}
+
+// A place's part in the latest time: a blank one has none.
+fn with_place(latest: u32, r: Row) -> u32
+    ensures { λ t. ⌜ t ≡ cond (isBlankRow r) latest (newest latest (r .time)) ⌝ }
+{
+    if is_blank_row(r) {
+        return latest;
+    }
+    newest(latest, r.time)
+}
+
+// The latest time of the rows shown, 0 where none is: only to judge a board that is handed in.
+fn latest_shown(rows: [Row; 8]) -> u32
+    requires { ⌜ Goods rows ⌝ }
+    ensures { λ t. ⌜ t ≡ latestShown rows ⌝ }
+{
+    let mut latest: u32 = 0;
+    let mut i: usize = 0;
+    while i < PLACES {
+        let r = rows[i];
+        latest = with_place(latest, r);
+        i += 1;
+    }
+    latest
+}
+
 // Whether a board that is handed in keeps its rules.
 pub fn valid_board(b: Board) -> bool
     ensures { λ r. ⌜ r ≡ validBoard b ⌝ }
@@ -254,7 +293,9 @@ pub fn valid_board(b: Board) -> bool
     let owners = b.owners;
     if valid_opening(aerodrome, b.count, runways, owners) {
         let rows = b.rows;
-        return valid_places(b.count as usize, runways, rows);
+        if valid_places(b.count as usize, runways, rows) {
+            return b.latest == latest_shown(rows);
+        }
     }
     false
 }
@@ -270,6 +311,7 @@ fn blank_board() -> Board
         count: 0,
         runways: [BLANK_RUNWAY; 8],
         owners: [0; 8],
+        latest: 0,
         rows: [r; 8],
     }
 }
@@ -295,6 +337,7 @@ pub fn open(aerodrome: [u8; 4], count: u8, runways: [Runway; 8], owners: [u8; 8]
             count,
             runways,
             owners,
+            latest: 0,
             rows: [r; 8],
         };
         return Answer {
@@ -374,6 +417,7 @@ pub fn report(b: Board, x: Sent) -> Answer
         return Answer { refusal, board: b };
     }
     let mut next = b;
+    next.latest = newest(b.latest, r.time);
     next.rows[i] = r;
     Answer {
         refusal,

@@ -16,16 +16,17 @@ use Rattle.row.specs.Row.{blankRow, isBlankRow}
 use Rattle.body.specs.declared.Rows.{Rows}
 use Rattle.items.specs.declared.Items.{Items}
 use Rattle.items.specs.declared.Language.{Language}
-use Rattle.body.specs.Rows.{makeRows}
+use Rattle.body.specs.Rows.{rowsOf, makeRows, latest}
 use Rattle.record.specs.declared.Record.{Record}
 use Rattle.notice.specs.declared.Written.{Written}
-use Rattle.notice.specs.Writing.{unwritten, writing, written, Wrote}
+use Rattle.notice.specs.Writing.{unwritten, writing, written, WroteAt}
+use Rattle.notice.specs.Laws.Text.{wrote-latest}
 use Rattle.board.specs.declared.Board.{Board}
 use Rattle.boardnotice.specs.declared.Details.{Details}
-use Rattle.board.specs.Board.{places, validBoard}
+use Rattle.board.specs.Board.{places, reported, validBoard}
 use Rattle.text.specs.Refusals.{wrongBoard, noReport}
-use Rattle.boardnotice.specs.Writing.{reported, boardRecord, writingBoard, writtenBoard, WroteBoard}
-use Rattle.boardnotice.specs.Laws.Writing.{few-reported}
+use Rattle.boardnotice.specs.Writing.{boardRecord, writingBoard, writtenBoard, WroteBoard}
+use Rattle.boardnotice.specs.Laws.Writing.{few-reported, board-latest}
 use Rattle.text.specs.Laws.Arrays.{next-place}
 
 -- c rows are in the array L, and rs come behind them
@@ -73,8 +74,9 @@ module _ (b : Board) (d : Details) (i : Items) (l : Language) where
     unfolding writingBoard writtenBoard
     wrote-21 h = let k = counts ∙ eq-eqb (r .rows .count) 0 h in record { answer = rw (v, k); holds = rw (v, k) }
 
-    pub wrote-record : {before after : List ℕ} {w : Written} → (r .rows .count ≡ 0 → ⊥) → Wrote r before after w → WroteBoard b d i l before after w
+    pub wrote-record : {before after : List ℕ} {w : Written} → (r .rows .count ≡ 0 → ⊥) → WroteAt (b .latest) r before after w → WroteBoard b d i l before after w
     unfolding writingBoard writtenBoard
     wrote-record {before} h p =
         let k = counts ∙ ne-eqb (r .rows .count) 0 h in
-        record { answer = rw (v, k) (p .answer ∙ ap (λ (s : Record). writing s (length before)) e); holds = rw (v, k) (p .holds ∙ ap (λ (s : Record). written s before) e) }
+        let q = wrote-latest (b .latest) r (board-latest b v ∙ sym (ap (λ (s : Record). latest (rowsOf (s .rows))) e)) p in
+        record { answer = rw (v, k) (q .answer ∙ ap (λ (s : Record). writing s (length before)) e); holds = rw (v, k) (q .holds ∙ ap (λ (s : Record). written s before) e) }

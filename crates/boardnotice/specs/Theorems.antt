@@ -1,6 +1,6 @@
 -- What writing a board gives, and that buffers of one length get the same notice of it, whatever they hold (demand 3).
 use Prim.Native.Nat.{ℕ, _≤_}
-use mathlib.Core.Path.{_≡_, refl, sym, _∙_, ap}
+use mathlib.Core.Path.{_≡_, refl, sym, subst, _∙_, ap}
 use mathlib.Core.List.{List, []}
 use mathlib.Core.Bool.{cond, not, Bool, true, false}
 use lib.Dec.{eqb, leb}
@@ -12,19 +12,20 @@ use Rattle.items.specs.declared.Language.{Language}
 use Rattle.record.specs.declared.Record.{Record}
 use Rattle.notice.specs.declared.Written.{Written}
 use Rattle.record.specs.Record.{validRecord, blankRecord}
-use Rattle.record.specs.Notice.{noticeText}
+use Rattle.record.specs.Notice.{noticeTextAt, noticeText}
+use Rattle.record.specs.Laws.{notice-latest}
 use Rattle.notice.specs.Reading.{reading}
 use Rattle.notice.specs.Writing.{unwritten, writing, written}
 use Rattle.notice.specs.Theorems.{Filled, untouched, wrote-filled, read-valid, refused-blank}
 use Rattle.board.specs.declared.Board.{Board}
 use Rattle.boardnotice.specs.declared.Details.{Details}
-use Rattle.board.specs.Board.{validBoard, validOpening, validList, isAerodrome, blankBoard}
+use Rattle.board.specs.Board.{reported, validBoard, validOpening, validList, isAerodrome, blankBoard}
 use Rattle.frontlines.specs.Letters.{isLetters}
 use Rattle.desktext.specs.Desk.{deskBoard}
 use Rattle.frontlines.specs.Addresses.{validAddresses}
-use Rattle.boardnotice.specs.Writing.{reported, boardRecord, writingBoard, writtenBoard, WroteBoard}
+use Rattle.boardnotice.specs.Writing.{boardRecord, writingBoard, writtenBoard, WroteBoard}
 use Rattle.boardnotice.specs.DeskNotice.{detailsOf, WroteDeskNotice}
-use Rattle.boardnotice.specs.Laws.Writing.{board-record, board-written}
+use Rattle.boardnotice.specs.Laws.Writing.{board-latest, board-record, board-written}
 
 -- the board's notice is written: as many bytes as are answered are its text, none where the writing is refused, and then every byte is as before
 pub board-filled : {b : Board} {d : Details} {i : Items} {l : Language} {before after : List ℕ} {w : Written} → WroteBoard b d i l before after w
@@ -40,6 +41,19 @@ board-filled {b} {d} {i} {l} {before} {after} {w} p = go (validBoard b) (isEmpty
     go true true e f = untouched (noticeText r) 21 (λ z. omega arith) e f
     go true false e f = wrote-filled (record { answer = e; holds = f }) .0
     go false u e f = untouched (noticeText r) 17 (λ z. omega arith) e f
+
+-- its heading bears the stored time
+pub heading-bears : {b : Board} {d : Details} {i : Items} {l : Language} {before after : List ℕ} {w : Written} → WroteBoard b d i l before after w
+    → Filled (noticeTextAt (b .latest) (boardRecord b d i l)) before after w
+unfolding writingBoard writtenBoard
+heading-bears {b} {d} {i} {l} {before} {after} {w} p = go (validBoard b) refl
+  where
+    r : Record
+    r = boardRecord b d i l
+
+    go : (t : Bool) → validBoard b ≡ t → Filled (noticeTextAt (b .latest) r) before after w
+    go true v = subst (λ text. Filled text before after w) (sym (ap (λ t. noticeTextAt t r) (board-latest b v) ∙ notice-latest r)) (board-filled p)
+    go false v = untouched (noticeTextAt (b .latest) r) 17 (λ z. omega arith) (rw v at (p .answer)) (rw v at (p .holds))
 
 -- so one board gives buffers of one length, whatever they hold, the same answer and the same bytes
 pub one-notice : {b : Board} {d : Details} {i : Items} {l : Language} {x₀ x y₀ y : List ℕ} {v w : Written} → WroteBoard b d i l x₀ x v

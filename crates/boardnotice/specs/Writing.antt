@@ -4,8 +4,6 @@ use mathlib.Core.Path.{_≡_}
 use mathlib.Core.List.{List, [], _∷_}
 use lib.ListN.{length}
 use Rattle.text.specs.Choice.{firstFailing, _else_, isEmpty}
-use Rattle.row.specs.declared.Row.{Row}
-use Rattle.row.specs.Row.{isBlankRow}
 use Rattle.items.specs.declared.Items.{Items}
 use Rattle.items.specs.declared.Language.{Language}
 use Rattle.body.specs.Rows.{makeRows}
@@ -14,14 +12,9 @@ use Rattle.notice.specs.declared.Written.{Written}
 use Rattle.notice.specs.Writing.{unwritten, writing, written}
 use Rattle.board.specs.declared.Board.{Board}
 use Rattle.boardnotice.specs.declared.Details.{Details}
-use Rattle.board.specs.Board.{validBoard}
+use Rattle.board.specs.Board.{reported, validBoard}
 use Rattle.text.specs.Refusals.{wrongBoard, noReport}
 use mathlib.Core.Bool.{cond, not}
-
--- the rows shown, in board order
-unfoldable pub reported : List Row → List Row
-reported [] = []
-reported (r ∷ rs) = cond (isBlankRow r) (reported rs) (r ∷ reported rs)
 
 -- the record of a board: its aerodrome and rows, and the rest as it is given
 abbrev pub boardRecord : Board → Details → Items → Language → Record

@@ -2,7 +2,8 @@
 
 ghost use mathlib.Core.Path.{_≡_};
 ghost use Rattle.body.specs.Rows.{makeRows};
-ghost use Rattle.boardnotice.specs.Writing.{reported, boardRecord, WroteBoard};
+ghost use Rattle.board.specs.Board.{reported};
+ghost use Rattle.boardnotice.specs.Writing.{boardRecord, WroteBoard};
 ghost use Rattle.boardnotice.specs.DeskNotice.{detailsOf, WroteDeskNotice};
 use board::Board;
 use board::PLACES;
@@ -16,7 +17,7 @@ use items::Items;
 use items::Language;
 use notice::Written;
 use notice::read;
-use notice::write;
+use notice::write_at;
 use record::Record;
 use row::Row;
 use row::blank_row;
@@ -51,7 +52,7 @@ fn shown_rows(rows: [Row; 8]) -> Rows
     Rows { count, rows: shown }
 }
 
-// What the notice of a board says; its heading time is worked out where it is written.
+// What the notice of a board says; its heading time is the stored one, which a record does not hold.
 fn board_record(b: Board, d: Details, items: Items, language: Language) -> Record
     ensures { λ r. ⌜ r ≡ boardRecord b d items language ⌝ }
 {
@@ -75,7 +76,7 @@ fn board_record(b: Board, d: Details, items: Items, language: Language) -> Recor
     }
 }
 
-// Writes the notice of a board: 17, then 21 where no row is shown, then 13 and 14. A refused writing touches no byte.
+// Writes the notice of a board, the stored time in its heading: 17, then 21 where no row is shown, then 13 and 14. A refused writing touches no byte.
 pub fn write_board(
     b: Board,
     d: Details,
@@ -93,7 +94,7 @@ pub fn write_board(
                 length: 0,
             };
         }
-        return write(r, buffer);
+        return write_at(r, b.latest, buffer);
     }
     Written {
         refusal: refusal::WRONG_BOARD,

@@ -145,7 +145,8 @@ pub fn valid_rows(r: Rows) -> bool
     false
 }
 
-fn later_of(t: u32, s: u32) -> u32
+// Of two times the later.
+pub fn later_of(t: u32, s: u32) -> u32
     ensures { λ r. ⌜ r ≡ latestOf t s ⌝ }
 {
     if is_later(s, t) { s } else { t }

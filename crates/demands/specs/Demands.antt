@@ -57,14 +57,15 @@ use Rattle.board.specs.declared.Runway.{Runway}
 use Rattle.board.specs.declared.Board.{Board}
 use Rattle.board.specs.declared.Answer.{Answer}
 use Rattle.board.specs.declared.Sent.{Sent}
-use Rattle.board.specs.Board.{places, blankRunway, isDesk, validOpening, validBoard, blankBoard, answer, opening}
+use Rattle.board.specs.Board.{places, blankRunway, isDesk, reported, validOpening, validBoard, blankBoard, answer, opening, latestShown}
 use Rattle.board.specs.Report.{placeFor, rowAt, ownerAt, isNews, refusal, report}
 use Rattle.board.specs.Runs.{_sends_, reports, from, answersTo}
-use Rattle.board.specs.Shows.{nothing, shownAt, _isIn_, ReportFor, Shows, shows-none, Apart}
+use Rattle.board.specs.Shows.{nothing, shownAt, _isIn_, ReportFor, Shows, shows-none, Apart, IsLatest}
+use Rattle.board.specs.Laws.Rules.{rules}
 use Rattle.board.specs.Laws.Shows.{shows-one}
 use Rattle.board.specs.Theorems as Board
 use Rattle.boardnotice.specs.declared.Details.{Details}
-use Rattle.boardnotice.specs.Writing.{reported, boardRecord, writingBoard, WroteBoard}
+use Rattle.boardnotice.specs.Writing.{boardRecord, writingBoard, WroteBoard, writtenBoard}
 use Rattle.boardnotice.specs.Theorems as BoardNotice
 use Rattle.desktext.specs.Line.{readOpening, listOf, openingRead, openingLine, readSender, reportRead, reportStarted, reportLine}
 use Rattle.desktext.specs.Desk.{printed, shownRows, deskText, reportLines}
@@ -280,6 +281,25 @@ board-by-number {b} {d} {i} {l} {before} p =
   where
     Named : Written → Type 0
     Named w = w .refusal takenOrRefusedBy boardRefusals
+
+-- request 3: "A board handed in with a wrong stored time is refused by 17"
+wrong-time : (b : Board) → (b .latest ≡ latestShown (b .rows) → ⊥) → validBoard b ≡ false
+wrong-time b h = go (validBoard b) refl
+  where
+    go : (t : Bool) → validBoard b ≡ t → validBoard b ≡ false
+    go true v = absurd (h (rules b v .latest))
+    go false v = v
+
+-- in reporting, `report`
+pub wrong-time-reported : (b : Board) (x : Sent) (a : Answer) → a ≡ reportOf b x → (b .latest ≡ latestShown (b .rows) → ⊥) → a ≡ answer wrongBoard b
+unfolding report refusal
+wrong-time-reported b x a e h = e ∙ rw (wrong-time b h)
+
+-- and in writing, `write_board`
+pub wrong-time-written : {b : Board} {d : Details} {i : Items} {l : Language} {before after : List ℕ} {w : Written} → WroteBoard b d i l before after w
+    → (b .latest ≡ latestShown (b .rows) → ⊥) → (w ≡ unwritten wrongBoard) × (after ≡ before)
+unfolding writingBoard writtenBoard
+wrong-time-written {b} p h = (p .answer ∙ rw (wrong-time b h), p .holds ∙ rw (wrong-time b h))
 
 -- "A refused reading yields the blank record"
 pub refused-reading : (m : List ℕ) (a : Reading) → a ≡ reading m → (a .refusal ≡ 0 → ⊥) → a .«record» ≡ blankRecord
@@ -502,6 +522,12 @@ module _ (aerodrome : List ℕ) (count : ℕ) (runways : List Runway) (owners : 
         are-answers d first ∙ (answers ∙ sym (are-answers d second)),
         λ i e. ap (λ z. rowAt z i) (are-reports first) ∙ (rows i e ∙ ap (λ z. rowAt z i) (sym (are-reports second))),
       )
+
+  -- request 3: "Store it in the board, with a mark for none, true after opening and after each report, taken or refused": the stored time is 0 where no row is
+  -- shown, else that of a row shown, and no row shown is later
+  pub time-stored : {xs : List Sent} {c : Board} → Calls reportOf (o .board) xs c → IsLatest (c .rows) (c .latest)
+  time-stored {xs} k =
+      subst (λ c. IsLatest (c .rows) (c .latest)) (sym (are-reports k)) (Board.time-latest aerodrome count runways owners (o .board) was-taken xs)
 
 -- of the desk: a line opens a board exactly if it is the text of an aerodrome, runways and owners that opening takes, with that board: `open_line`
 pub opened-by-line : (l : List ℕ) (a : Answer) (b : Board) → a ≡ openingLine l → (a ≡ answer 0 b) ↔ Opens l b

@@ -6,6 +6,7 @@ ghost use Rattle.record.specs.Notice.{noticeText};
 ghost use Rattle.listing.specs.Listing.{disagreeingThirds, counted, acceptedLine, refusedLine, listing};
 use body::MOST_ROWS;
 use body::Rows;
+use body::latest_time;
 use fill::put;
 use fill::put_number;
 use fill::told_behind;
@@ -68,8 +69,10 @@ fn put_refused(out: &mut [u8], refusal: u8) -> usize
 fn notice_at(out: &mut [u8], at: usize, r: Record) -> usize
     ensures { λ n. ⌜ Put at (noticeText r) (now (out .entry)) (now (out .exit)) n ⌝ }
 {
+    let rows = r.rows;
+    let time = latest_time(rows);
     let start = place(out, at);
-    let n = put_notice(&mut out[start..], r);
+    let n = put_notice(&mut out[start..], r, time);
     told_behind(out, at, n)
 }
 

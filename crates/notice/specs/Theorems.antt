@@ -27,6 +27,7 @@ use Rattle.notice.specs.declared.Written.{Written}
 use Rattle.record.specs.Record.{validRecord, blankRecord}
 use Rattle.record.specs.Notice.{noticeLines, notice, noticeText}
 use Rattle.notice.specs.Reading.{readNotice, result, reading}
+use Rattle.record.specs.Laws.{notice-latest}
 use Rattle.record.specs.Answer.{accepted, refused}
 use Rattle.notice.specs.Writing.{unwritten, writing, written, Wrote}
 use Rattle.notice.specs.Rewriting.{rewriting, rewritten, Rewrote}
@@ -65,12 +66,12 @@ complete m r v t l =
 
 -- every valid record's text has at most 4,096 bytes
 pub never-too-long : (r : Record) → validRecord r ≡ true → length (noticeText r) ≤ 4096
-never-too-long = text-fits
+never-too-long r v = rw (← (notice-latest r)) (text-fits _ r v)
 
 -- a written valid record reads back as that record
 pub back : (r : Record) → validRecord r ≡ true → reading (noticeText r) ≡ accepted r
 unfolding noticeText
-back r v = complete (noticeText r) r v (canonical-typed (notice r)) (text-fits r v)
+back r v = complete (noticeText r) r v (canonical-typed (notice r)) (never-too-long r v)
 
 -- refused means blank
 pub refused-blank : (m : List ℕ) → (reading m .refusal ≡ 0 → ⊥) → reading m .«record» ≡ blankRecord

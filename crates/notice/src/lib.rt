@@ -8,11 +8,12 @@ ghost use Rattle.text.specs.Choice.{_and_};
 ghost use Rattle.sameness.specs.Same.{sameRows, sameItems, sameLanguage};
 ghost use Rattle.notice.specs.Same.{SaysSame, sameRecord};
 ghost use Rattle.record.specs.Record.{validRecord};
-ghost use Rattle.record.specs.Notice.{noticeText};
-ghost use Rattle.notice.specs.Writing.{Wrote};
+ghost use Rattle.record.specs.Notice.{noticeTextAt};
+ghost use Rattle.notice.specs.Writing.{Wrote, WroteAt};
 ghost use Rattle.notice.specs.Rewriting.{Rewrote};
 ghost use Rattle.notice.specs.Reading.{reading};
 ghost use Rattle.notice.specs.Code.Below.{Opened, DisagreesAt};
+use body::latest_time;
 use body::read_rows;
 use front::read_front;
 use record::Reading;
@@ -98,33 +99,33 @@ pub fn read(message: &[u8]) -> Reading
 
 // ---- Writing
 
-// How many bytes the text has.
-fn text_size(r: Record) -> usize
+// How many bytes the text has with this time in its heading.
+fn text_size(r: Record, time: u32) -> usize
     requires { ⌜ validRecord r ≡ true ⌝ }
-    ensures { λ n. ⌜ n ≡ length (noticeText r) ⌝ }
+    ensures { λ n. ⌜ n ≡ length (noticeTextAt time r) ⌝ }
 {
     let mut none = [0; 1];
-    put_notice(&mut none, r)
+    put_notice(&mut none, r, time)
 }
 
 // The text fits into so many bytes: the longest is known, and only a shorter buffer is measured against the text.
-fn has_room(r: Record, room: usize) -> bool
+fn has_room(r: Record, time: u32, room: usize) -> bool
     requires { ⌜ validRecord r ≡ true ⌝ }
-    ensures { λ b. ⌜ b ≡ leb (length (noticeText r)) room ⌝ }
+    ensures { λ b. ⌜ b ≡ leb (length (noticeTextAt time r)) room ⌝ }
 {
     if LONGEST <= room {
         return true;
     }
-    text_size(r) <= room
+    text_size(r, time) <= room
 }
 
 // Writes the text of a valid record: 14 where the buffer is too short for it.
-fn write_valid(r: Record, buffer: &mut [u8]) -> Written
+fn write_valid(r: Record, time: u32, buffer: &mut [u8]) -> Written
     requires { ⌜ validRecord r ≡ true ⌝ }
-    ensures { λ w. ⌜ Wrote r (now (buffer .entry)) (now (buffer .exit)) w ⌝ }
+    ensures { λ w. ⌜ WroteAt time r (now (buffer .entry)) (now (buffer .exit)) w ⌝ }
 {
-    if has_room(r, buffer.len()) {
-        let length = put_notice(buffer, r);
+    if has_room(r, time, buffer.len()) {
+        let length = put_notice(buffer, r, time);
         return Written { refusal: 0, length };
     }
     Written {
@@ -133,17 +134,25 @@ fn write_valid(r: Record, buffer: &mut [u8]) -> Written
     }
 }
 
-// Writes the text of a record: 13, then 14 where the buffer is too short for it. A refused writing touches no byte.
-pub fn write(r: Record, buffer: &mut [u8]) -> Written
-    ensures { λ w. ⌜ Wrote r (now (buffer .entry)) (now (buffer .exit)) w ⌝ }
+// Writes the text of a record with a heading time that is known: 13, then 14 where the buffer is too short for it. A refused writing touches no byte.
+pub fn write_at(r: Record, time: u32, buffer: &mut [u8]) -> Written
+    ensures { λ w. ⌜ WroteAt time r (now (buffer .entry)) (now (buffer .exit)) w ⌝ }
 {
     if valid_record(r) {
-        return write_valid(r, buffer);
+        return write_valid(r, time, buffer);
     }
     Written {
         refusal: refusal::INVALID_RECORD,
         length: 0,
     }
+}
+
+// Writes the text of a record, its heading time worked out: 13, 14.
+pub fn write(r: Record, buffer: &mut [u8]) -> Written
+    ensures { λ w. ⌜ Wrote r (now (buffer .entry)) (now (buffer .exit)) w ⌝ }
+{
+    let rows = r.rows;
+    write_at(r, latest_time(rows), buffer)
 }
 
 // Reads a message and writes it anew, or answers the refusal of its reading; a record that was read is valid and is not judged again.
@@ -158,7 +167,8 @@ pub fn rewrite(message: &[u8], buffer: &mut [u8]) -> Written
         };
     }
     let record = a.record;
-    write_valid(record, buffer)
+    let rows = record.rows;
+    write_valid(record, latest_time(rows), buffer)
 }
 
 // ---- Sameness

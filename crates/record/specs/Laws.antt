@@ -1,6 +1,6 @@
--- The text of a notice is that of its parts.
+-- The text of a notice is that of its parts, and its heading time is the latest.
 use Prim.Native.Nat.{ℕ}
-use mathlib.Core.Path.{_≡_, sym}
+use mathlib.Core.Path.{_≡_, refl, sym}
 use mathlib.Core.List.{List, [], _∷_, _++_, map, append-assoc}
 use Rattle.text.specs.Piece.{Piece, canonical}
 use Rattle.text.specs.Lines.{under}
@@ -14,7 +14,7 @@ use Rattle.body.specs.Rows.{rowsOf, latest}
 use Rattle.items.specs.Parts.{itemsOf, languageOf}
 use Rattle.remarks.specs.Remarks.{remarkLines}
 use Rattle.record.specs.declared.Record.{Record}
-use Rattle.record.specs.Notice.{noticeLines, notice, noticeText}
+use Rattle.record.specs.Notice.{noticeTextAt, noticeLines, notice, noticeText}
 
 -- lines 2 to 5, the rows and what stands below them are lines under the first
 joined : (a : List ℕ) (f h s d : List Piece) (rows below : List (List Piece))
@@ -24,13 +24,18 @@ unfolding under
 joined a f h s d rows below = simp (under-append, append-assoc)
 
 -- lines 1 to 5, the rows, what stands below them, and the end
-pub notice-parts : (r : Record) → noticeText r
-    ≡ frontText (r .addresses) (r .filing) (r .title) (latest (rowsOf (r .rows)))
+pub notice-parts : (time : ℕ) (r : Record) → noticeTextAt time r
+    ≡ frontText (r .addresses) (r .filing) (r .title) time
     ++ (under (map rowPieces (rowsOf (r .rows))) ++ (under (remarkLines (itemsOf (r .items)) (languageOf (r .language))) ++ (41 ∷ 10 ∷ [])))
-unfolding noticeText notice noticeLines
-notice-parts r =
+unfolding noticeTextAt
+notice-parts time r =
     let a = canonical (addressesPieces (r .addresses)) in
     let rows = map rowPieces (rowsOf (r .rows)) in
     let below = remarkLines (itemsOf (r .items)) (languageOf (r .language)) in
-    rw ended-under (sym (joined a (filingPieces (r .filing)) (headingPieces (record { title = r .title; time = latest (rowsOf (r .rows)) }))
+    rw ended-under (sym (joined a (filingPieces (r .filing)) (headingPieces (record { title = r .title; time = time }))
     (serialPieces (r .title .serial)) (aerodromePieces (r .title .aerodrome)) rows below))
+
+-- the notice of a record bears the latest time
+pub notice-latest : (r : Record) → noticeTextAt (latest (rowsOf (r .rows))) r ≡ noticeText r
+unfolding noticeTextAt noticeText notice noticeLines
+notice-latest r = refl

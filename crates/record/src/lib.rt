@@ -6,7 +6,7 @@ ghost use Rattle.text.specs.Put.{Put};
 ghost use Rattle.body.specs.Rows.{rowsOf, validRows};
 ghost use Rattle.items.specs.Parts.{holdsItems, holdsLanguage};
 ghost use Rattle.record.specs.Record.{blankRecord, validRecord};
-ghost use Rattle.record.specs.Notice.{noticeText};
+ghost use Rattle.record.specs.Notice.{noticeTextAt};
 ghost use Rattle.record.specs.Answer.{accepted, refused};
 ghost use Rattle.record.specs.Code.Fitted.{mismatch, recordOf};
 use body::Rows;
@@ -165,9 +165,9 @@ fn valid_body(r: Record) -> bool
     false
 }
 
-// Puts the text of any record part by part, as far as the buffer goes, and judges nothing.
-pub fn put_notice(out: &mut [u8], r: Record) -> usize
-    ensures { λ n. ⌜ Put 0 (noticeText r) (now (out .entry)) (now (out .exit)) n ⌝ }
+// Puts the text of any record with the heading time given part by part, as far as the buffer goes, and judges nothing.
+pub fn put_notice(out: &mut [u8], r: Record, time: u32) -> usize
+    ensures { λ n. ⌜ Put 0 (noticeTextAt time r) (now (out .entry)) (now (out .exit)) n ⌝ }
 {
     let addresses = r.addresses;
     let filing = r.filing;
@@ -175,7 +175,7 @@ pub fn put_notice(out: &mut [u8], r: Record) -> usize
     let rows = r.rows;
     let items = r.items;
     let language = r.language;
-    let at = put_front(out, addresses, filing, title, latest_time(rows));
+    let at = put_front(out, addresses, filing, title, time);
     let at = put_rows(out, at, rows);
     let at = put_remarks(out, at, items, language);
     put(out, at, b")\n")

@@ -12,13 +12,14 @@ use Rattle.row.specs.Row.{blankRow, isBlankRow}
 use Rattle.row.specs.Laws.Row.{blank-row}
 use Rattle.board.specs.declared.Runway.{Runway}
 use Rattle.board.specs.declared.Board.{Board}
-use Rattle.board.specs.Board.{places, blankRunway, runwaysOf, validOpening, validBoard, noRows, fresh, answer, refusedOpening, opening}
+use Rattle.board.specs.Board.{places, blankRunway, runwaysOf, latestShown, validOpening, validBoard, noRows, fresh, answer, refusedOpening, opening}
 use Rattle.board.specs.Report.{rowAt, ownerAt, report}
 use Rattle.board.specs.declared.Sent.{Sent}
 use Rattle.board.specs.Runs.{reports}
 use Rattle.board.specs.Shows.{nothing, row, shown, runwayAt, shownAt, Shows}
+use Rattle.board.specs.Laws.Rows.{blank-blank}
 use Rattle.board.specs.Laws.Shows.{next, grow, empty}
-use Rattle.board.specs.Laws.Rules.{blank-blank, fresh-valid, report-valid, report-list, SameList, rules, used, fit-past}
+use Rattle.board.specs.Laws.Rules.{fresh-valid, report-valid, report-list, SameList, rules, used, fit-past}
 use Rattle.board.specs.Laws.Step.{report-shown}
 
 -- the place of a runway w of the desk o that shows what the reports seen make it show goes on so
@@ -60,7 +61,8 @@ same-place p q = go (isBlankRow p) refl (isBlankRow q) refl
 pub same-board : (c e : Board) → validBoard c ≡ true → validBoard e ≡ true → SameList e c → ((i : ℕ) → i < e .count → shownAt c i ≡ shownAt e i) → c ≡ e
 same-board c e v w s h =
     let r = ext-getD blankRow (c .rows) (e .rows) (rules c v .high ∙ sym (rules e w .high)) (λ i l. place i (decLt i (e .count))) in
-    λ i. record { aerodrome = s .aerodrome i; count = s .count i; runways = s .runways i; owners = s .owners i; rows = r i }
+    let t = rules c v .latest ∙ (ap latestShown r ∙ sym (rules e w .latest)) in
+    λ i. record { aerodrome = s .aerodrome i; count = s .count i; runways = s .runways i; owners = s .owners i; latest = t i; rows = r i }
   where
     past : (b : Board) → validBoard b ≡ true → (i : ℕ) → b .count ≤ i → rowAt b i ≡ blankRow
     past b g i l =

@@ -8,37 +8,21 @@ use lib.ListN.{length, take, getD, set, replicate, length-take, length-set}
 use lib.Seq.{getD-take}
 use borrow.Author.Tests.{eqb-true, eq-eqb, ne-eqb, leb-true, ltb-true, lt-ltb, le-ltb}
 use native.Mathlib.Omega.{arith}
+use native.Mathlib.Decide.{decLt}
 use Rattle.text.specs.Choice.{_and_, all}
 use Rattle.text.specs.Laws.Base.{true-false, and-1, and-2, and-i}
 use Rattle.row.specs.declared.Row.{Row}
-use Rattle.runway.specs.Time.{realTime, realDay}
-use Rattle.surface.specs.Third.{isBlankThird}
-use Rattle.row.specs.Row.{validRow, blankRow, isBlankRow, threeThat}
+use Rattle.row.specs.Row.{validRow, blankRow, isBlankRow}
 use Rattle.text.specs.Refusals.{invalidRow, wrongBoard, notOnBoard, notLater, othersRunway, noDesk}
-use Rattle.row.specs.Laws.Row.{blank-row}
 use Rattle.board.specs.declared.Runway.{Runway}
 use Rattle.board.specs.declared.Board.{Board}
-use Rattle.board.specs.Board.{blankRunway, comesBefore, rises, rising, validList, names, fitsPlace, fitPlaces, validPlaces, runwaysOf}
-use Rattle.board.specs.Board.{isDesk, validOwners, validOpening, validBoard, fresh}
-use Rattle.board.specs.Report.{placeOf, placeFor, rowAt, ownerAt, isNews, refusal, stored, report}
+use Rattle.board.specs.Board.{blankRunway, comesBefore, rises, rising, validList, names, fitsPlace, fitPlaces, validPlaces, runwaysOf, noRows}
+use Rattle.board.specs.Board.{isDesk, validOwners, latestShown, validOpening, validBoard, fresh}
+use Rattle.board.specs.Report.{placeOf, placeFor, rowAt, ownerAt, isNews, refusal, newest, stored, report}
 use Rattle.board.specs.declared.Sent.{Sent}
 use Rattle.board.specs.Runs.{reports}
-
--- a blank row is blank, and no valid row is
-pub blank-blank : isBlankRow blankRow ≡ true
-unfolding isBlankRow threeThat isBlankThird _and_
-blank-blank = refl
-
-pub blank-invalid : validRow blankRow ≡ false
-unfolding validRow realTime realDay _and_
-blank-invalid = refl
-
-pub valid-not-blank : (r : Row) → validRow r ≡ true → isBlankRow r ≡ false
-valid-not-blank r v = go (isBlankRow r) refl
-  where
-    go : (t : Bool) → isBlankRow r ≡ t → t ≡ false
-    go false e = refl
-    go true e = sym v ∙ (ap validRow (blank-row r e) ∙ blank-invalid)
+use Rattle.board.specs.Laws.Rows.{blank-blank, valid-not-blank}
+use Rattle.board.specs.Laws.Latest.{Good, blank, valid, Goods, latest-set, none-latest}
 
 -- an element within an array does not depend on what stands for one outside
 pub getD-any : {A : Type 0} (d e : A) (l : List A) (i : ℕ) → i < length l → getD l i d ≡ getD l i e
@@ -163,6 +147,7 @@ pub record Rules (b : Board) : Type 0 where
   pub desks : all isDesk (take (b .count) (b .owners)) ≡ true
   pub high : length (b .rows) ≡ 8
   pub fit : fitPlaces (runwaysOf b) (b .rows) ≡ true
+  pub latest : b .latest ≡ latestShown (b .rows)
 
 pub rules : (b : Board) → validBoard b ≡ true → Rules b
 unfolding validBoard validOpening validList validOwners validPlaces
@@ -172,7 +157,7 @@ rules b v =
     let h₂ = and-2 _ _ h₁ in
     let h₃ = and-2 _ _ h₂ in
     let o = and-2 _ _ (and-1 _ _ v) in
-    let k = and-2 _ _ v in
+    let k = and-1 _ _ (and-2 _ _ v) in
     record {
       list = h;
       owned = o;
@@ -184,6 +169,7 @@ rules b v =
       desks = and-1 _ _ (and-2 _ _ o);
       high = eqb-true (length (b .rows)) 8 (and-1 _ _ k);
       fit = and-2 _ _ k;
+      latest = eqb-true (b .latest) (latestShown (b .rows)) (and-2 _ _ (and-2 _ _ v));
     }
 
 pub used : (b : Board) → Rules b → length (runwaysOf b) ≡ b .count
@@ -202,10 +188,30 @@ owner-desk b k i l =
     subst (λ o. isDesk o ≡ true) (getD-take (b .count) (b .owners) i 0 l)
     (all-in isDesk 0 (take (b .count) (b .owners)) i (k .desks) (rw length-take (omega arith)))
 
+-- rows in their places are blank or valid
+fits-good : (w : Runway) (r : Row) → fitsPlace w r ≡ true → Good r
+unfolding fitsPlace
+fits-good w r = go (isBlankRow r) refl
+  where
+    go : (t : Bool) → isBlankRow r ≡ t → cond t true (validRow r and names r w) ≡ true → Good r
+    go true e f = blank e
+    go false e f = valid (and-1 _ _ f)
+
+pub goods : (ws : List Runway) (rs : List Row) → fitPlaces ws rs ≡ true → Goods rs
+goods ws rs h i = go (decLt i (length ws))
+  where
+    go : Dec (i < length ws) → Good (getD rs i blankRow)
+    go (yes l) = fits-good (getD ws i blankRunway) (getD rs i blankRow) (fit-at blankRunway ws rs i h l)
+    go (no l) = blank (fit-past ws rs i h (omega arith))
+
+pub places-good : (n : ℕ) (ws : List Runway) (rs : List Row) → validPlaces n ws rs ≡ true → Goods rs
+unfolding validPlaces
+places-good n ws rs h = goods (take n ws) rs (and-2 _ _ h)
+
 -- opening: the rules hold of what it takes
 pub fresh-valid : (a : List ℕ) (n : ℕ) (ws : List Runway) (os : List ℕ) → validOpening a n ws os ≡ true → validBoard (fresh a n ws os) ≡ true
 unfolding validBoard validPlaces
-fresh-valid a n ws os h = and-i h (and-i refl (fit-zeros (take n ws) 8))
+fresh-valid a n ws os h = and-i h (and-i (and-i refl (fit-zeros (take n ws) 8)) (eq-eqb 0 (latestShown noRows) (sym none-latest)))
 
 -- each answer to a report, in the order of the tests
 module _ (b : Board) (d : ℕ) (r : Row) where
@@ -290,8 +296,13 @@ stored-valid b d r t =
     let u = used b k in
     let p = t .place in
     let f = fits-valid (getD (runwaysOf b) (placeFor b r) blankRunway) r (t .valid) (took-names b d r t) in
-    and-i (and-i (k .list) (k .owned)) (and-i (eq-eqb (length (set (b .rows) (placeFor b r) r)) 8 (length-set (b .rows) (placeFor b r) r ∙ k .high))
+    let few = k .few in
+    let high = k .high in
+    let rows = set (b .rows) (placeFor b r) r in
+    let time = latest-set (b .rows) (placeFor b r) r (goods (runwaysOf b) (b .rows) (k .fit)) (omega arith) (t .valid) (t .news) in
+    and-i (and-i (k .list) (k .owned)) (and-i (and-i (eq-eqb (length rows) 8 (length-set (b .rows) (placeFor b r) r ∙ k .high))
     (fit-set blankRunway (runwaysOf b) (b .rows) (placeFor b r) r (k .fit) (omega arith) f))
+    (eq-eqb (newest (b .latest) (r .time)) (latestShown rows) (ap (λ s. newest s (r .time)) (k .latest) ∙ sym time)))
 
 pub report-valid : (b : Board) (d : ℕ) (r : Row) → validBoard b ≡ true → validBoard (report b d r .board) ≡ true
 report-valid b d r v = subst (λ c. validBoard c ≡ true) (sym (report-board b d r)) (go (takes b d r) refl)

@@ -17,11 +17,8 @@ use Rattle.runway.specs.Laws.Time.{later-self, later-total, later-back, later-o
 use Rattle.board.specs.declared.Runway.{Runway}
 use Rattle.board.specs.Board.{names}
 use Rattle.board.specs.declared.Sent.{Sent}
+use Rattle.board.specs.Laws.Rows.{row-real}
 use Rattle.board.specs.Shows.{Shown, nothing, row, _isIn_, ReportFor, Last, Shows, shows-none, shows-row, Apart}
-
-pub row-real : (r : Row) → validRow r ≡ true → realTime (r .time) ≡ true
-unfolding validRow
-row-real r h = and-1 _ _ h
 
 abbrev pub newer : Row → Shown → Bool
 newer r nothing = true

@@ -19,8 +19,9 @@ use Rattle.board.specs.Board.{blankRunway, names, runwaysOf, isDesk, val
 use Rattle.board.specs.Report.{placeFor, rowAt, ownerAt, isNews, refusal, stored, report}
 use Rattle.board.specs.Runs.{_sends_}
 use Rattle.board.specs.Shows.{nothing, row, shown, runwayAt, shownAt}
-use Rattle.board.specs.Laws.Shows.{newer, next, row-real}
-use Rattle.board.specs.Laws.Rules.{valid-not-blank, place-is, rules, used, owner-desk, takes, report-board, Took, took, took-names, stored-valid}
+use Rattle.board.specs.Laws.Rows.{valid-not-blank, row-real}
+use Rattle.board.specs.Laws.Shows.{newer, next}
+use Rattle.board.specs.Laws.Rules.{place-is, rules, used, owner-desk, takes, report-board, Took, took, took-names, stored-valid}
 use Rattle.board.specs.Laws.Rules.{refused-0, refused-20, refused-22}
 
 pub shown-valid : (r : Row) → validRow r ≡ true → shown r ≡ row r

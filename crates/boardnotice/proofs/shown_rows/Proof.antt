@@ -5,7 +5,7 @@ use native.Mathlib.Omega.{arith}
 use lib.ListN.{length, drop, length-set}
 use borrow.Author.Tests.{not-true, not-false}
 use Rattle.body.specs.Rows.{makeRows}
-use Rattle.boardnotice.specs.Writing.{reported}
+use Rattle.board.specs.Board.{reported}
 use Rattle.boardnotice.proofs.Writing.{rowsOnto, shown-all, shown-end, shown-off, shown-on}
 use borrow.Author.Needs.{needs}
 use Rattle.boardnotice.proofs.shown_rows.Statement.{statement}

@@ -17,8 +17,8 @@ returns c =
     let a = g .before .before .before .args in
     wrote-21 (a .b) (a .d) (a .items) (a .language) (sym (g .before .valid-board .ensures) ∙ g .if1 .taken) (k .board-record .ensures) (c .if2 .taken)
 
-write-requires : tie.Need-write-requires
-write-requires c κs = search needs
+write-at-requires : tie.Need-write-at-requires
+write-at-requires c κs = search needs
 
 same-length : tie.Need-same-length
 same-length c = search needs
@@ -30,7 +30,7 @@ returns-2 c =
     let k = s .before .before in
     let g = k .before in
     let a = g .before .before .before .args in
-    wrote-record (a .b) (a .d) (a .items) (a .language) (sym (g .before .valid-board .ensures) ∙ g .if1 .taken) (k .board-record .ensures) (s .if2 .left) (w .write .ensures)
+    wrote-record (a .b) (a .d) (a .items) (a .language) (sym (g .before .valid-board .ensures) ∙ g .if1 .taken) (k .board-record .ensures) (s .if2 .left) (w .write-at .ensures)
 
 returns-3 : tie.Need-returns-3
 returns-3 c = let a = c .before .before .before .args in wrote-17 (a .b) (a .d) (a .items) (a .language) (sym (c .before .valid-board .ensures) ∙ c .if1 .left)
@@ -42,7 +42,7 @@ write-board-spec =
     valid-board-requires
     board-record-requires
     returns
-    write-requires
+    write-at-requires
     same-length
     returns-2
     returns-3)

@@ -1,6 +1,6 @@
 -- Writing a board: its rows always make a valid part of a record, so that 13 comes only by the details, the items or the plain language.
 use Prim.Native.Nat.{ℕ, suc, _≤_}
-use mathlib.Core.Path.{_≡_, refl, sym, _∙_}
+use mathlib.Core.Path.{_≡_, refl, sym, _∙_, ap}
 use mathlib.Core.List.{List, [], _∷_, _++_}
 use mathlib.Core.Bool.{cond, Bool, true, false}
 use lib.ListN.{length}
@@ -8,10 +8,11 @@ use borrow.Author.Tests.{eqb-true, eq-eqb, le-leb}
 use native.Mathlib.Omega.{arith}
 use Rattle.text.specs.Choice.{all, isEmpty}
 use Rattle.text.specs.Laws.Base.{and-1, and-2, and-i}
+use Rattle.text.specs.Laws.Arrays.{take-front}
 use Rattle.row.specs.declared.Row.{Row}
 use Rattle.row.specs.Row.{validRow, isBlankRow}
 use Rattle.frontlines.specs.Heading.{validTitle}
-use Rattle.body.specs.Rows.{sameRunway, isAmong, newRunways}
+use Rattle.body.specs.Rows.{rowsOf, makeRows, sameRunway, isAmong, newRunways, latest}
 use Rattle.body.specs.Laws.Parts.{GoodRows, rows-valid}
 use Rattle.record.specs.declared.Record.{Record}
 use Rattle.record.specs.Record.{validRecord}
@@ -20,8 +21,9 @@ use Rattle.notice.specs.Writing.{writing}
 use Rattle.board.specs.declared.Runway.{Runway}
 use Rattle.board.specs.declared.Board.{Board}
 use Rattle.boardnotice.specs.declared.Details.{Details}
-use Rattle.board.specs.Board.{blankRunway, comesBefore, rises, rising, isAerodrome, validList, names, fitsPlace, fitPlaces, runwaysOf, validBoard}
-use Rattle.boardnotice.specs.Writing.{reported, boardRecord, writingBoard}
+use Rattle.board.specs.Board.{blankRunway, comesBefore, rises, rising, isAerodrome, validList, names, fitsPlace, fitPlaces, runwaysOf}
+use Rattle.board.specs.Board.{reported, latestShown, validBoard}
+use Rattle.boardnotice.specs.Writing.{boardRecord, writingBoard}
 use Rattle.boardnotice.specs.DeskNotice.{detailsOf}
 use Rattle.board.specs.Laws.Rules.{before-trans, before-apart, rules}
 
@@ -111,6 +113,11 @@ few-reported (r ∷ rs) = go (isBlankRow r) (few-reported rs)
     go : (t : Bool) → length (reported rs) ≤ length rs → length (cond t (reported rs) (r ∷ reported rs)) ≤ suc (length rs)
     go true h = omega arith
     go false h = omega arith
+
+-- the stored time is the latest of the rows that the notice shows
+pub board-latest : (b : Board) → validBoard b ≡ true → b .latest ≡ latest (rowsOf (makeRows (reported (b .rows))))
+unfolding latestShown
+board-latest b v = rules b v .latest ∙ ap latest (sym (take-front (reported (b .rows)) _))
 
 module _ (b : Board) (v : validBoard b ≡ true) (some : isEmpty (reported (b .rows)) ≡ false) where
   -- the rows of a board that shows one are valid, at most eight, and no runway twice

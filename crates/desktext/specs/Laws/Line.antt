@@ -43,7 +43,8 @@ use Rattle.board.specs.Board.{places, blankRunway, isBlankRunway, isAerodrome, 
 use Rattle.board.specs.Board.{runwaysOf, validBoard, fresh, answer, opening, refusedOpening}
 use Rattle.board.specs.Report.{rowAt}
 use Rattle.board.specs.Shows.{nothing, row, shownAt}
-use Rattle.board.specs.Laws.Rules.{blank-invalid, rules, used, fit-at}
+use Rattle.board.specs.Laws.Rows.{blank-invalid}
+use Rattle.board.specs.Laws.Rules.{rules, used, fit-at}
 use Rattle.board.specs.Laws.Demand.{opened-fresh as was-opened}
 use Rattle.desktext.specs.declared.OwnedFound.{OwnedFound}
 use Rattle.desktext.specs.Code.Held.{HeldOwned, notOwned}

@@ -66,12 +66,11 @@ unfolding readAerodrome aerodromePieces
 aerodrome-laws = loosen (letters-laws 3) (λ m h. h) (λ m h. tt)
 
 -- how long the lines are
-pub heading-size : (h : Heading) → validHeading h ≡ true → size (headingPieces h) ≤ 22
-unfolding headingPieces validTitle validHeading
+pub heading-size : (h : Heading) → validTitle (h .title) ≡ true → size (headingPieces h) ≤ 22
+unfolding headingPieces validTitle
 heading-size h v =
-    let t = and-1 _ _ v in
-    let a = letters-long regionSize (h .title .region) (and-1 _ _ t) in
-    let b = letters-long aerodromeSize (h .title .aerodrome) (and-2 _ _ (and-2 _ _ t)) in
+    let a = letters-long regionSize (h .title .region) (and-1 _ _ v) in
+    let b = letters-long aerodromeSize (h .title .aerodrome) (and-2 _ _ (and-2 _ _ v)) in
     rw (
       append-size,
       append-size (spell (bytes "SW")) _,

@@ -1,5 +1,5 @@
 use lib.ListN.{length}
-use Rattle.record.specs.Notice.{noticeText}
+use Rattle.record.specs.Notice.{noticeTextAt}
 use Rattle.notice.specs.Laws.Size.{text-fits}
 use borrow.Author.Tests.{le-leb}
 use native.Mathlib.Omega.{arith}
@@ -9,7 +9,10 @@ use Rattle.notice.proofs.has_room.Statement.{statement}
 use Rattle.notice.proofs.has_room.Tie as tie
 
 returns : tie.Need-returns
-returns c = let s = c .before in sym (le-leb (length (noticeText (s .args .r))) (s .args .room) (omega (arith, text-fits (s .args .r) (s .pre))))
+returns c =
+    let s = c .before in
+    let a = s .args in
+    sym (le-leb (length (noticeTextAt (a .time) (a .r))) (a .room) (omega (arith, text-fits (a .time) (a .r) (s .pre))))
 
 text-size-requires : tie.Need-text-size-requires
 text-size-requires c κs = search needs

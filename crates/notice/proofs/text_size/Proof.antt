@@ -12,7 +12,7 @@ put-notice-requires : tie.Need-put-notice-requires
 put-notice-requires c κs = search needs
 
 returns : tie.Need-returns
-returns c = let s = c .before .before .before in measured (c .before .put-notice .ensures) (omega (arith, text-fits (s .args .r) (s .pre)))
+returns c = let s = c .before .before .before in measured (c .before .put-notice .ensures) (omega (arith, text-fits (s .args .time) (s .args .r) (s .pre)))
 
 pub text-size-spec : {M : Type 1} → statement M
 text-size-spec = tie.close (tie.spec slice-aggregate-put-notice put-notice-requires returns)

@@ -1,23 +1,21 @@
-use Rattle.notice.specs.Laws.Text.{wrote-invalid}
-use mathlib.Core.Path.{sym, _∙_}
+use Rattle.notice.specs.Laws.Text.{wrote-latest}
 use borrow.Author.Needs.{needs}
 use Rattle.notice.proofs.write.Statement.{statement}
 use Rattle.notice.proofs.write.Tie as tie
 
-valid-record-requires : tie.Need-valid-record-requires
-valid-record-requires c κs = search needs
+latest-time-requires : tie.Need-latest-time-requires
+latest-time-requires c κs = search needs
 
-write-valid-requires : tie.Need-write-valid-requires
-write-valid-requires c κs = let c₁ = c .before in sym (c₁ .before .valid-record .ensures) ∙ c₁ .if1 .taken
+write-at-requires : tie.Need-write-at-requires
+write-at-requires c κs = search needs
 
 same-length : tie.Need-same-length
 same-length c = search needs
 
 returns : tie.Need-returns
-returns c = search needs
-
-returns-2 : tie.Need-returns-2
-returns-2 c = wrote-invalid (c .before .before .before .args .r) (sym (c .before .valid-record .ensures) ∙ c .if1 .left)
+returns c =
+    let told = c .before .before in
+    wrote-latest _ _ (told .before .before .latest-time .ensures) (told .write-at .ensures)
 
 pub write-spec : {M : Type 1} → statement M
-write-spec = tie.close (tie.spec valid-record-requires write-valid-requires same-length returns returns-2)
+write-spec = tie.close (tie.spec latest-time-requires write-at-requires same-length returns)

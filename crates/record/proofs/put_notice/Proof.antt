@@ -4,9 +4,6 @@ use borrow.Author.Needs.{needs}
 use Rattle.record.proofs.put_notice.Statement.{statement}
 use Rattle.record.proofs.put_notice.Tie as tie
 
-latest-time-requires : tie.Need-latest-time-requires
-latest-time-requires c κs = search needs
-
 put-front-requires : tie.Need-put-front-requires
 put-front-requires c κs = search needs
 
@@ -26,13 +23,17 @@ same-length : tie.Need-same-length
 same-length c = search needs
 
 returns : tie.Need-returns
-returns c = let c₁ = c .before .before in let c₂ = c₁ .before .before .before .before .before in let c₃ = c₂ .before .before .before .before in let c₄ = c₃ .before .before .before .before in rw (notice-parts _, ← (c₄ .before .latest-time .ensures)) (more (c₄ .put-front .ensures) (more (c₃ .put-rows .ensures) (more (c₂ .put-remarks .ensures) (c₁ .put .ensures))))
+returns c =
+    let c₁ = c .before .before in
+    let c₂ = c₁ .before .before .before .before .before in
+    let c₃ = c₂ .before .before .before .before in
+    let c₄ = c₃ .before .before .before .before in
+    rw (notice-parts _ _) (more (c₄ .put-front .ensures) (more (c₃ .put-rows .ensures) (more (c₂ .put-remarks .ensures) (c₁ .put .ensures))))
 
 pub put-notice-spec : {M : Type 1} → statement M
 put-notice-spec =
     tie.close
     (tie.spec
-    latest-time-requires
     put-front-requires
     put-rows-requires
     put-remarks-requires
