@@ -1,3 +1,3 @@
-pub mod Lines
+pub mod Entries
 pub mod Temperature
 pub mod Ranges

@@ -10,7 +10,7 @@ use Rattle.surface.specs.declared.Observation.{Observation}
 use Rattle.surface.specs.declared.Assessment.{Assessment}
 use Rattle.surface.specs.Descriptions.{notReported, compactedSnow, standingWater, wet, dry, isDeep}
 use Rattle.surface.specs.Third.{third, blankThird, isReported, greatestDepth}
-use Rattle.surface.specs.Table1.{minus, isShallow, codeFor}
+use Rattle.surface.specs.Table1.{minus, codeFor}
 use Rattle.text.specs.Refusals.{outOfRange, contradiction}
 use mathlib.Core.List.{[], _∷_}
 
@@ -25,6 +25,10 @@ isTemperature t = leZ (minus 600) t and leZ t (pos 600)
 -- what 15 does not refuse
 unfoldable pub inRange : Observation → Bool
 inRange o = isKind (o .kind) and leb (o .cover) 100 and leb (o .depth) greatestDepth and isTemperature (o .temperature)
+
+-- "to 3 mm", and not "above 3"
+unfoldable pub isShallow : ℕ → Bool
+isShallow depth = leb depth 3
 
 -- "DRY with cover above 0"
 unfoldable pub coveredDry : Observation → Bool

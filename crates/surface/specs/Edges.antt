@@ -8,8 +8,8 @@ use Rattle.surface.specs.declared.Observation.{Observation}
 use Rattle.surface.specs.declared.Assessment.{Assessment}
 use Rattle.surface.specs.Descriptions.{notReported, compactedSnow, frost, slush, standingWater, wet, isContaminant, isDeep}
 use Rattle.surface.specs.Third.{third, isCoverage, validCoverage, leastDepth, isReported, validDepth, validThird}
-use Rattle.surface.specs.Table1.{table1, minus, isShallow, isCold, holds, isFor, firstFitting}
-use Rattle.surface.specs.Assess.{assessedAs, isKind, isTemperature, inRange, coveredDry, deepWet, deepOther, slipperyOther, contradictory, coverageFor}
+use Rattle.surface.specs.Table1.{table1, minus, isNamed, holds, isFor, firstFitting}
+use Rattle.surface.specs.Assess.{assessedAs, isKind, isTemperature, inRange, isShallow, coveredDry, deepWet, deepOther, slipperyOther, contradictory, coverageFor}
 use Rattle.surface.specs.Assess.{uncovered, isThinWater, reportedKind, reportedDepth, covered, assessed, assessing}
 
 -- an observation of a surface that is not slippery
@@ -41,8 +41,8 @@ pub record Edges : Type 0 where
   water-04 : validThird (third 2 100 4 standingWater) ≡ true
 
 pub edges : Edges
-unfolding Choice._and_ isContaminant isDeep isCoverage validCoverage leastDepth isReported validDepth validThird table1 isShallow isCold holds isFor
-    firstFitting isKind isTemperature inRange coveredDry deepWet deepOther slipperyOther contradictory coverageFor uncovered isThinWater reportedKind
+unfolding Choice._and_ isContaminant isDeep isCoverage validCoverage leastDepth isReported validDepth validThird table1 isNamed holds isFor
+    firstFitting isKind isTemperature inRange isShallow coveredDry deepWet deepOther slipperyOther contradictory coverageFor uncovered isThinWater reportedKind
     reportedDepth covered assessed assessing
 edges =
     record {

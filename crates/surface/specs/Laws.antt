@@ -1,3 +1,5 @@
+pub mod Figures
 pub mod Kinds
 pub mod OneLine
 pub mod Reported
+pub mod Before

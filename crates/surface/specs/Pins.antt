@@ -104,8 +104,8 @@ validity =
       not-blank = refl;
     }
 
--- the codes of the lines of Table 1, in its order
-order : map code table1 ≡ 6 ∷ 5 ∷ 5 ∷ 5 ∷ 5 ∷ 5 ∷ 4 ∷ 3 ∷ 3 ∷ 3 ∷ 3 ∷ 3 ∷ 3 ∷ 2 ∷ 2 ∷ 1 ∷ 0 ∷ 0 ∷ 0 ∷ 0 ∷ []
+-- the codes of the entries of Table 1, in its order
+order : map code table1 ≡ 6 ∷ 5 ∷ 5 ∷ 5 ∷ 5 ∷ 5 ∷ 4 ∷ 3 ∷ 3 ∷ 3 ∷ 3 ∷ 3 ∷ 3 ∷ 2 ∷ 2 ∷ 1 ∷ 0 ∷ 0 ∷ 0 ∷ []
 unfolding table1
 order = refl
 
@@ -113,9 +113,9 @@ order = refl
 signs : map minus (0 ∷ 1 ∷ []) ≡ pos 0 ∷ negsuc 0 ∷ []
 signs = refl
 
--- a kind that has no line
+-- a kind that has no entry
 unlisted : (o : Observation) → codeFor 0 o ≡ 0
-unfolding Choice._and_ table1 Table1.isFor Table1.firstFitting
+unfolding Choice._and_ table1 Table1.isNamed Table1.isFor Table1.firstFitting
 unlisted o = refl
 
 -- the codes that a description agrees with at depth NR, 03 and 04
@@ -145,7 +145,7 @@ agreement :
     ∷ (dry, (6 ∷ [], (6 ∷ [], 6 ∷ [])))
     ∷ (16, ([], ([], [])))
     ∷ []
-unfolding Choice._and_ Table1.table1 Table1.isShallow Table1.canHold Table1.allows Table1.firstFitting Table1.agrees
+unfolding Choice._and_ Table1.table1 Table1.isNamed Table1.canHold Table1.allows Table1.firstFitting Table1.agrees
 agreement = refl
 
 -- what is reported of an observation: kind, cover, depth, temperature, slippery
@@ -180,8 +180,8 @@ kinds :
     ∷ (dry, (refusedAssessing 16, refusedAssessing 16))
     ∷ (16, (refusedAssessing 15, refusedAssessing 15))
     ∷ []
-unfolding Choice._and_ Descriptions.isDeep Third.leastDepth Third.isReported Table1.table1 Table1.isShallow Table1.isCold Table1.holds Table1.isFor
-    Table1.firstFitting Assess.isKind Assess.isTemperature Assess.inRange Assess.coveredDry Assess.deepWet Assess.deepOther Assess.slipperyOther
+unfolding Choice._and_ Descriptions.isDeep Third.leastDepth Third.isReported Table1.table1 Table1.isNamed Table1.holds Table1.isFor
+    Table1.firstFitting Assess.isKind Assess.isTemperature Assess.inRange Assess.isShallow Assess.coveredDry Assess.deepWet Assess.deepOther Assess.slipperyOther
     Assess.contradictory Assess.coverageFor Assess.uncovered Assess.isThinWater Assess.reportedKind Assess.reportedDepth Assess.covered Assess.assessed
     Assess.assessing
 kinds = refl
@@ -211,8 +211,8 @@ pub record Assessing : Type 0 where
   wet-snow : map (λ d. report wetSnow 100 d (pos 0) false .third) (2 ∷ 3 ∷ []) ≡ third 5 100 0 wetSnow ∷ third 5 100 3 wetSnow ∷ []
 
 pub assessments : Assessing
-unfolding Choice._and_ Descriptions.isDeep Third.leastDepth Third.isReported Table1.table1 Table1.isShallow Table1.isCold Table1.holds Table1.isFor
-    Table1.firstFitting Assess.isKind Assess.isTemperature Assess.inRange Assess.coveredDry Assess.deepWet Assess.deepOther Assess.slipperyOther
+unfolding Choice._and_ Descriptions.isDeep Third.leastDepth Third.isReported Table1.table1 Table1.isNamed Table1.holds Table1.isFor
+    Table1.firstFitting Assess.isKind Assess.isTemperature Assess.inRange Assess.isShallow Assess.coveredDry Assess.deepWet Assess.deepOther Assess.slipperyOther
     Assess.contradictory Assess.coverageFor Assess.uncovered Assess.isThinWater Assess.reportedKind Assess.reportedDepth Assess.covered Assess.assessed
     Assess.assessing
 assessments =

@@ -2,112 +2,118 @@
 use Prim.Native.Nat.{ℕ, zero, suc}
 use mathlib.Core.List.{List, [], _∷_}
 use mathlib.Core.Bool.{cond, Bool, true, false, not}
-use lib.Dec.{eqb, leb}
+use lib.Dec.{eqb, leb, ltb}
 use lib.IntN.{ℤ, pos, negsuc}
-use lib.Signed.{leZ}
-use Rattle.text.specs.Choice.{_and_}
+use lib.Signed.{leZ, ltZ}
+use Rattle.text.specs.Choice.{_and_, member}
 use Rattle.surface.specs.declared.Third.{Third}
 use Rattle.surface.specs.declared.Observation.{Observation}
 use Rattle.surface.specs.declared.Entry.{Entry}
 use Rattle.surface.specs.declared.Condition.{Condition}
-use Rattle.surface.specs.declared.Condition.the-variants.{Always, NotSlippery, Slippery, Shallow, Deeper, Cold, Milder}
+use Rattle.surface.specs.declared.Kinds.{Kinds}
+use Rattle.surface.specs.declared.Kinds.the-variants.{One, Either}
+use Rattle.surface.specs.declared.Condition.the-variants.{Always, NotSlippery, Slippery, DepthTo, DepthOver, TemperatureTo, TemperatureOver}
 use Rattle.surface.specs.Descriptions.{notReported, compactedSnow, drySnow, drySnowOnCompactedSnow, drySnowOnIce, frost, ice, slush, standingWater}
 use Rattle.surface.specs.Descriptions.{waterOnCompactedSnow, wet, wetIce, wetSnow, wetSnowOnCompactedSnow, wetSnowOnIce, dry}
 
--- an entry: the code, the kind of surface, and the condition under which the kind has the code
-abbrev pub entry : ℕ → ℕ → Condition → Entry
-entry c k q = record { 0 = c; 1 = k; 2 = q }
+-- the kinds that an entry names: one, or one "or" another
+abbrev pub named : Kinds → List ℕ
+named (One a) = a ∷ []
+named (Either a b) = a ∷ b ∷ []
+
+-- an entry: the code, the kinds of surface, and the condition under which they have the code
+abbrev pub entry : ℕ → Kinds → Condition → Entry
+entry c ks q = record { 0 = c; 1 = ks; 2 = q }
 
 -- the code of an entry
 abbrev pub code : Entry → ℕ
-code l = l .0
+code e = e .0
 
--- its kind
-abbrev pub kind : Entry → ℕ
-kind l = l .1
+-- its kinds
+abbrev pub kinds : Entry → Kinds
+kinds e = e .1
 
 -- and the condition under which it holds
 abbrev pub condition : Entry → Condition
-condition l = l .2
-
--- Table 1, in its order
-unfoldable pub table1 : List Entry
-table1 =
-    entry 6 dry Always  -- 干
-    ∷ entry 5 frost Always  -- 霜
-    ∷ entry 5 wet NotSlippery  -- 湿
-    ∷ entry 5 slush Shallow  -- 雪浆，不超过 3 毫米
-    ∷ entry 5 drySnow Shallow  -- 干雪，不超过 3 毫米
-    ∷ entry 5 wetSnow Shallow  -- 湿雪，不超过 3 毫米
-    ∷ entry 4 compactedSnow Cold  -- 压实的雪，-15 度及以下
-    ∷ entry 3 wet Slippery  -- 湿滑
-    ∷ entry 3 drySnowOnCompactedSnow Always  -- 压实的雪面上有干雪
-    ∷ entry 3 wetSnowOnCompactedSnow Always  -- 压实的雪面上有湿雪
-    ∷ entry 3 drySnow Deeper  -- 干雪，超过 3 毫米
-    ∷ entry 3 wetSnow Deeper  -- 湿雪，超过 3 毫米
-    ∷ entry 3 compactedSnow Milder  -- 压实的雪，高于 -15 度
-    ∷ entry 2 standingWater Deeper  -- 积水，超过 3 毫米
-    ∷ entry 2 slush Deeper  -- 雪浆，超过 3 毫米
-    ∷ entry 1 ice Always  -- 冰
-    ∷ entry 0 wetIce Always  -- 湿冰
-    ∷ entry 0 waterOnCompactedSnow Always  -- 压实的雪面上有水
-    ∷ entry 0 drySnowOnIce Always  -- 冰面上有干雪
-    ∷ entry 0 wetSnowOnIce Always  -- 冰面上有湿雪
-    ∷ []
-
--- "to 3 mm"; NR is 0, so that "an NR depth counts as shallow"
-unfoldable pub isShallow : ℕ → Bool
-isShallow depth = leb depth 3
+condition e = e .2
 
 -- the number n below zero
 abbrev pub minus : ℕ → ℤ
 minus zero = pos 0
 minus (suc n) = negsuc n
 
--- "at -150 and below", in tenths of a degree
-unfoldable pub isCold : ℤ → Bool
-isCold temperature = leZ temperature (minus 150)
+-- in tenths of a degree
+abbrev pub minus15Degrees : ℤ
+minus15Degrees = minus 150
 
--- the condition holds of an observation
+-- Table 1, in its order; depths in millimetres
+unfoldable pub table1 : List Entry
+table1 =
+    entry 6 (One dry) Always  -- 干
+    ∷ entry 5 (One frost) Always  -- 霜
+    ∷ entry 5 (One wet) NotSlippery  -- 湿【跑道表面覆盖有任何明显的湿气或深度不超过 3 毫米（含）的水】
+    ∷ entry 5 (One slush) (DepthTo 3)  -- 雪浆【深度不超过 3 毫米（含）】
+    ∷ entry 5 (One drySnow) (DepthTo 3)  -- 干雪【深度不超过 3 毫米（含）】
+    ∷ entry 5 (One wetSnow) (DepthTo 3)  -- 湿雪【深度不超过 3 毫米（含）】
+    ∷ entry 4 (One compactedSnow) (TemperatureTo minus15Degrees)  -- 压实的雪（外面气温-15 摄氏度或 5 华氏度及以下）
+    ∷ entry 3 (One wet) Slippery  -- 湿（“湿滑”跑道）
+    ∷ entry 3 (One drySnowOnCompactedSnow) Always  -- 压实的雪面上有干雪（任何深度）
+    ∷ entry 3 (One wetSnowOnCompactedSnow) Always  -- 压实的雪面上有湿雪（任何深度）
+    ∷ entry 3 (One drySnow) (DepthOver 3)  -- 干雪（深度超过 3 毫米）
+    ∷ entry 3 (One wetSnow) (DepthOver 3)  -- 湿雪（深度超过 3 毫米）
+    ∷ entry 3 (One compactedSnow) (TemperatureOver minus15Degrees)  -- 压实的雪（外面气温高于-15 摄氏度或 5 华氏度）
+    ∷ entry 2 (One standingWater) (DepthOver 3)  -- 积水（深度超过 3 毫米）
+    ∷ entry 2 (One slush) (DepthOver 3)  -- 雪浆（深度超过 3 毫米）
+    ∷ entry 1 (One ice) Always  -- 冰
+    ∷ entry 0 (One wetIce) Always  -- 湿冰
+    ∷ entry 0 (One waterOnCompactedSnow) Always  -- 压实的雪面上有水
+    ∷ entry 0 (Either drySnowOnIce wetSnowOnIce) Always  -- 冰面上有干雪或湿雪
+    ∷ []
+
+-- the kind is one of those named
+unfoldable pub isNamed : Kinds → ℕ → Bool
+isNamed ks k = member (named ks) k
+
+-- the condition holds of an observation; "不超过" and "及以下" take the figure in, "超过" and "高于" do not
 unfoldable pub holds : Condition → Observation → Bool
 holds Always o = true
 holds NotSlippery o = not (o .slippery)
 holds Slippery o = o .slippery
-holds Shallow o = isShallow (o .depth)
-holds Deeper o = not (isShallow (o .depth))
-holds Cold o = isCold (o .temperature)
-holds Milder o = not (isCold (o .temperature))
+holds (DepthTo mm) o = leb (o .depth) mm
+holds (DepthOver mm) o = ltb mm (o .depth)
+holds (TemperatureTo tenths) o = leZ (o .temperature) tenths
+holds (TemperatureOver tenths) o = ltZ tenths (o .temperature)
 
 -- the entry is the one for a surface of this kind, so observed
 unfoldable pub isFor : Entry → ℕ → Observation → Bool
-isFor l k o = eqb (kind l) k and holds (condition l) o
+isFor e k o = isNamed (kinds e) k and holds (condition e) o
 
 -- what the first entry that passes a test gives, or else the last value
 unfoldable pub firstFitting : {A : Type 0} → (Entry → Bool) → (Entry → A) → A → List Entry → A
 firstFitting test gives else [] = else
-firstFitting test gives else (l ∷ ls) = cond (test l) (gives l) (firstFitting test gives else ls)
+firstFitting test gives else (e ∷ es) = cond (test e) (gives e) (firstFitting test gives else es)
 
 -- the code that Table 1 gives
 abbrev pub codeFor : ℕ → Observation → ℕ
-codeFor k o = firstFitting (λ l. isFor l k o) code 0 table1
+codeFor k o = firstFitting (λ e. isFor e k o) code 0 table1
 
--- the condition can hold of a surface whose reported depth is known, and nothing else
+-- the condition can hold of a surface whose reported depth is known, and nothing else; NR is 0, so that "an NR depth counts as shallow"
 unfoldable pub canHold : Condition → ℕ → Bool
 canHold Always depth = true
 canHold NotSlippery depth = true
 canHold Slippery depth = true
-canHold Shallow depth = isShallow depth
-canHold Deeper depth = not (isShallow depth)
-canHold Cold depth = true
-canHold Milder depth = true
+canHold (DepthTo mm) depth = leb depth mm
+canHold (DepthOver mm) depth = ltb mm depth
+canHold (TemperatureTo tenths) depth = true
+canHold (TemperatureOver tenths) depth = true
 
 -- the entry allows a third its code
 unfoldable pub allows : Entry → Third → Bool
-allows l t = eqb (kind l) (t .description) and eqb (code l) (t .code) and canHold (condition l) (t .depth)
+allows e t = isNamed (kinds e) (t .description) and eqb (code e) (t .code) and canHold (condition e) (t .depth)
 
 -- some entry of Table 1 allows it
 abbrev pub isAllowed : Third → Bool
-isAllowed t = firstFitting (λ l. allows l t) (λ _. true) false table1
+isAllowed t = firstFitting (λ e. allows e t) (λ _. true) false table1
 
 -- the agreement check of a third: "NR allows every code", else Table 1 has to allow it
 unfoldable pub agrees : Third → Bool

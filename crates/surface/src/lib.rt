@@ -7,8 +7,17 @@ ghost use mathlib.Core.Bool.{true};
 ghost use lib.ListN.{length, drop};
 ghost use Rattle.surface.specs.Descriptions.{isContaminant, isDeep};
 ghost use Rattle.surface.specs.Third.{isBlankThird, isCoverage, validCoverage, leastDepth, isReported, validDepth, validThird};
-ghost use Rattle.surface.specs.Table1.{table1, isShallow, isCold, holds, isFor, codeFor, canHold, allows, isAllowed, agrees};
-ghost use Rattle.surface.specs.Assess.{isKind, isTemperature, inRange, coveredDry, deepWet, deepOther, slipperyOther, contradictory, coverageFor, uncovered, isThinWater, reportedKind, reportedDepth, covered, assessed, assessing};
+ghost use Rattle.surface.specs.Table1.{table1, isNamed, holds, isFor, codeFor, canHold, allows, isAllowed, agrees};
+ghost use Rattle.surface.specs.Assess.{isKind, isTemperature, inRange, isShallow, coveredDry, deepWet, deepOther, slipperyOther, contradictory, coverageFor, uncovered, isThinWater, reportedKind, reportedDepth, covered, assessed, assessing};
+use Condition::Always;
+use Condition::DepthOver;
+use Condition::DepthTo;
+use Condition::NotSlippery;
+use Condition::Slippery;
+use Condition::TemperatureOver;
+use Condition::TemperatureTo;
+use Kinds::Either;
+use Kinds::One;
 use description::COMPACTED_SNOW;
 use description::DRY;
 use description::DRY_SNOW;
@@ -174,68 +183,70 @@ pub fn is_blank_third(t: Third) -> bool
 
 // ---- Table 1
 
-// What a line of Table 1 says besides the kind of surface.
+// The kinds of surface that an entry of Table 1 names: one, or one "or" another.
+pub enum Kinds {
+    One(u8),
+    Either(u8, u8),
+}
+
+// What an entry says besides its kinds.
 pub enum Condition {
     Always,
     NotSlippery,
     Slippery,
-    // to 3 mm
-    Shallow,
-    // above 3 mm
-    Deeper,
-    // at -15 degrees and below
-    Cold,
-    // above -15 degrees
-    Milder,
+    // millimetres; To takes the figure in, Over does not
+    DepthTo(u32),
+    DepthOver(u32),
+    // tenths of a degree Celsius
+    TemperatureTo(i32),
+    TemperatureOver(i32),
 }
 
-// The code, the kind of surface, and the condition under which the kind has the code.
-pub struct Entry(pub u8, pub u8, pub Condition);
+// The code, the kinds of surface, and the condition under which they have the code.
+pub struct Entry(pub u8, pub Kinds, pub Condition);
 
-const LINES: usize = 20;
+const MINUS_15_DEGREES: i32 = -150;
 
-// One line of the source for each line of the table, in the table's order.
-const TABLE_1: [Entry; LINES] = [
-    Entry(6, DRY, Condition::Always),
-    Entry(5, FROST, Condition::Always),
-    Entry(5, WET, Condition::NotSlippery),
-    Entry(5, SLUSH, Condition::Shallow),
-    Entry(5, DRY_SNOW, Condition::Shallow),
-    Entry(5, WET_SNOW, Condition::Shallow),
-    Entry(4, COMPACTED_SNOW, Condition::Cold),
-    Entry(3, WET, Condition::Slippery),
-    Entry(3, DRY_SNOW_ON_COMPACTED_SNOW, Condition::Always),
-    Entry(3, WET_SNOW_ON_COMPACTED_SNOW, Condition::Always),
-    Entry(3, DRY_SNOW, Condition::Deeper),
-    Entry(3, WET_SNOW, Condition::Deeper),
-    Entry(3, COMPACTED_SNOW, Condition::Milder),
-    Entry(2, STANDING_WATER, Condition::Deeper),
-    Entry(2, SLUSH, Condition::Deeper),
-    Entry(1, ICE, Condition::Always),
-    Entry(0, WET_ICE, Condition::Always),
-    Entry(0, WATER_ON_COMPACTED_SNOW, Condition::Always),
-    Entry(0, DRY_SNOW_ON_ICE, Condition::Always),
-    Entry(0, WET_SNOW_ON_ICE, Condition::Always),
+const ENTRIES: usize = 19;
+
+// One line for each entry of Table 1 of document 000, in its order and with its words. WET above 3 mm is refused by 16 before it comes here.
+const TABLE_1: [Entry; ENTRIES] = [
+    Entry(6, One(DRY), Always), // 干
+    Entry(5, One(FROST), Always), // 霜
+    Entry(5, One(WET), NotSlippery), // 湿【跑道表面覆盖有任何明显的湿气或深度不超过 3 毫米（含）的水】
+    Entry(5, One(SLUSH), DepthTo(3)), // 雪浆【深度不超过 3 毫米（含）】
+    Entry(5, One(DRY_SNOW), DepthTo(3)), // 干雪【深度不超过 3 毫米（含）】
+    Entry(5, One(WET_SNOW), DepthTo(3)), // 湿雪【深度不超过 3 毫米（含）】
+    Entry(4, One(COMPACTED_SNOW), TemperatureTo(MINUS_15_DEGREES)), // 压实的雪（外面气温-15 摄氏度或 5 华氏度及以下）
+    Entry(3, One(WET), Slippery), // 湿（“湿滑”跑道）
+    Entry(3, One(DRY_SNOW_ON_COMPACTED_SNOW), Always), // 压实的雪面上有干雪（任何深度）
+    Entry(3, One(WET_SNOW_ON_COMPACTED_SNOW), Always), // 压实的雪面上有湿雪（任何深度）
+    Entry(3, One(DRY_SNOW), DepthOver(3)), // 干雪（深度超过 3 毫米）
+    Entry(3, One(WET_SNOW), DepthOver(3)), // 湿雪（深度超过 3 毫米）
+    Entry(3, One(COMPACTED_SNOW), TemperatureOver(MINUS_15_DEGREES)), // 压实的雪（外面气温高于-15 摄氏度或 5 华氏度）
+    Entry(2, One(STANDING_WATER), DepthOver(3)), // 积水（深度超过 3 毫米）
+    Entry(2, One(SLUSH), DepthOver(3)), // 雪浆（深度超过 3 毫米）
+    Entry(1, One(ICE), Always), // 冰
+    Entry(0, One(WET_ICE), Always), // 湿冰
+    Entry(0, One(WATER_ON_COMPACTED_SNOW), Always), // 压实的雪面上有水
+    Entry(0, Either(DRY_SNOW_ON_ICE, WET_SNOW_ON_ICE), Always), // 冰面上有干雪或湿雪
 ];
 
-// The line of the table at a place counted from 0: the first of those that are left from there.
-fn line_at(i: usize) -> Entry
+// The entry at a place of the table counted from 0: the first of those that are left from there.
+fn entry_at(i: usize) -> Entry
     requires { ⌜ i < length table1 ⌝ }
     ensures { λ r. ⌜ drop i table1 ≡ r ∷ drop (i + 1) table1 ⌝ }
 {
     TABLE_1[i]
 }
 
-fn is_shallow(depth: u32) -> bool
-    ensures { λ r. ⌜ r ≡ isShallow depth ⌝ }
+fn is_named(kinds: Kinds, kind: u8) -> bool
+    ensures { λ r. ⌜ r ≡ isNamed kinds kind ⌝ }
 {
-    depth <= 3
-}
-
-fn is_cold(temperature: i32) -> bool
-    ensures { λ r. ⌜ r ≡ isCold temperature ⌝ }
-{
-    temperature <= -150
+    match kinds {
+        Kinds::One(a) => a == kind,
+        Kinds::Either(a, b) => if a == kind { true } else { b == kind },
+    }
 }
 
 // The condition holds of the observation.
@@ -246,18 +257,19 @@ fn holds(c: Condition, o: Observation) -> bool
         Condition::Always => true,
         Condition::NotSlippery => !o.slippery,
         Condition::Slippery => o.slippery,
-        Condition::Shallow => is_shallow(o.depth),
-        Condition::Deeper => !is_shallow(o.depth),
-        Condition::Cold => is_cold(o.temperature),
-        Condition::Milder => !is_cold(o.temperature),
+        Condition::DepthTo(mm) => o.depth <= mm,
+        Condition::DepthOver(mm) => mm < o.depth,
+        Condition::TemperatureTo(tenths) => o.temperature <= tenths,
+        Condition::TemperatureOver(tenths) => tenths < o.temperature,
     }
 }
 
-fn is_for(l: Entry, kind: u8, o: Observation) -> bool
-    ensures { λ r. ⌜ r ≡ isFor l kind o ⌝ }
+fn is_for(e: Entry, kind: u8, o: Observation) -> bool
+    ensures { λ r. ⌜ r ≡ isFor e kind o ⌝ }
 {
-    if l.1 == kind {
-        let condition = l.2;
+    let kinds = e.1;
+    if is_named(kinds, kind) {
+        let condition = e.2;
         return holds(condition, o);
     }
     false
@@ -268,10 +280,10 @@ fn code_for(kind: u8, o: Observation) -> u8
     ensures { λ r. ⌜ r ≡ codeFor kind o ⌝ }
 {
     let mut i = 0;
-    while i < LINES {
-        let l = line_at(i);
-        if is_for(l, kind, o) {
-            return l.0;
+    while i < ENTRIES {
+        let e = entry_at(i);
+        if is_for(e, kind, o) {
+            return e.0;
         }
         i += 1;
     }
@@ -286,33 +298,34 @@ fn can_hold(c: Condition, depth: u32) -> bool
         Condition::Always => true,
         Condition::NotSlippery => true,
         Condition::Slippery => true,
-        Condition::Shallow => is_shallow(depth),
-        Condition::Deeper => !is_shallow(depth),
-        Condition::Cold => true,
-        Condition::Milder => true,
+        Condition::DepthTo(mm) => depth <= mm,
+        Condition::DepthOver(mm) => mm < depth,
+        Condition::TemperatureTo(_) => true,
+        Condition::TemperatureOver(_) => true,
     }
 }
 
-fn allows(l: Entry, t: Third) -> bool
-    ensures { λ r. ⌜ r ≡ allows l t ⌝ }
+fn allows(e: Entry, t: Third) -> bool
+    ensures { λ r. ⌜ r ≡ allows e t ⌝ }
 {
-    if l.1 != t.description {
-        return false;
+    let kinds = e.1;
+    if is_named(kinds, t.description) {
+        if e.0 != t.code {
+            return false;
+        }
+        let condition = e.2;
+        return can_hold(condition, t.depth as u32);
     }
-    if l.0 != t.code {
-        return false;
-    }
-    let condition = l.2;
-    can_hold(condition, t.depth as u32)
+    false
 }
 
 fn is_allowed(t: Third) -> bool
     ensures { λ r. ⌜ r ≡ isAllowed t ⌝ }
 {
     let mut i = 0;
-    while i < LINES {
-        let l = line_at(i);
-        if allows(l, t) {
+    while i < ENTRIES {
+        let e = entry_at(i);
+        if allows(e, t) {
             return true;
         }
         i += 1;
@@ -363,6 +376,12 @@ fn in_range(o: Observation) -> bool
         return is_temperature(o.temperature);
     }
     false
+}
+
+fn is_shallow(depth: u32) -> bool
+    ensures { λ r. ⌜ r ≡ isShallow depth ⌝ }
+{
+    depth <= 3
 }
 
 fn covered_dry(o: Observation) -> bool

@@ -1,5 +1,5 @@
 use Rattle.text.specs.Laws.Tests.{tests}
-use Rattle.surface.specs.Table1.{isShallow}
+use Rattle.surface.specs.Assess.{isShallow}
 use Rattle.surface.proofs.is_shallow.Statement.{statement}
 use Rattle.surface.proofs.is_shallow.Tie as tie
 

@@ -1,21 +1,22 @@
 -- What the assessor reports is a third that a row may hold, and its code agrees with Table 1.
-use Prim.Native.Nat.{ℕ, _≤_}
+use Prim.Native.Nat.{ℕ, suc, _≤_}
 use mathlib.Core.Path.{_≡_, refl, sym, _∙_}
 use mathlib.Core.Bool.{cond, not, Bool, true, false}
 use mathlib.Core.List.{List, [], _∷_}
 use lib.Dec.{eqb, leb, ltb}
-use borrow.Author.Tests.{leb-true, leb-false, le-leb, eqb-true, eqb-false, eq-eqb, ltb-false, lt-ltb, not-true}
+use borrow.Author.Tests.{leb-true, le-leb, eqb-false, eq-eqb, ltb-true, ltb-false, lt-ltb}
 use native.Mathlib.Omega.{arith}
 use Rattle.text.specs.Choice.{_and_, all}
 use Rattle.text.specs.Laws.Base.{and-1, and-2, and-i}
+use Rattle.text.specs.Laws.Names.{all-at}
 use Rattle.surface.specs.declared.Third.{Third}
 use Rattle.surface.specs.declared.Observation.{Observation}
 use Rattle.surface.specs.declared.Entry.{Entry}
 use Rattle.surface.specs.declared.Condition.{Condition}
-use Rattle.surface.specs.declared.Condition.the-variants.{Always, NotSlippery, Slippery, Shallow, Deeper, Cold, Milder}
+use Rattle.surface.specs.declared.Condition.the-variants.{Always, NotSlippery, Slippery, DepthTo, DepthOver, TemperatureTo, TemperatureOver}
 use Rattle.surface.specs.Descriptions.{notReported, standingWater, wet, wetSnowOnIce, dry, isContaminant, isDeep}
 use Rattle.surface.specs.Third.{third, blankThird, isCode, isCoverage, validCoverage, leastDepth, isReported, validDepth, validThird, greatestDepth}
-use Rattle.surface.specs.Table1.{table1, code, kind, condition, isShallow, holds, isFor, firstFitting, canHold, allows, agrees}
+use Rattle.surface.specs.Table1.{table1, named, code, kinds, condition, isNamed, holds, isFor, firstFitting, canHold, allows, agrees}
 use Rattle.surface.specs.Assess.{isKind, inRange, coveredDry, contradictory, coverageFor, uncovered, isThinWater, reportedKind, reportedDepth}
 use Rattle.surface.specs.Assess.{covered, assessed, assessing, leastCover, assessedAs, refusedAssessing}
 use Rattle.text.specs.Refusals.{outOfRange, contradiction}
@@ -27,35 +28,19 @@ either false h = h
 
 -- ---- depth
 
-least : (k : ℕ) → leastDepth k ≤ 4
-unfolding leastDepth
-least k = go (eqb k standingWater)
-  where
-    go : (t : Bool) → cond t 4 3 ≤ 4
-    go true = omega arith
-    go false = omega arith
-
-nothing : isShallow notReported ≡ true
-unfolding isShallow
-nothing = refl
-
-reaches : (k d : ℕ) → isShallow d ≡ false → leastDepth k ≤ d
-unfolding isShallow
-reaches k d h = omega (arith, least k, leb-false d 3 h)
-
--- a depth that is reported is the one observed, and one that is not is NR: so a shallow surface stays shallow
-shallow-stays : (k d : ℕ) → isShallow d ≡ true → isShallow (reportedDepth k d) ≡ true
+-- a depth that is reported is the one observed, and one that is not is NR, which is 0: so what is to a figure stays so
+to-stays : (k d mm : ℕ) → leb d mm ≡ true → leb (reportedDepth k d) mm ≡ true
 unfolding reportedDepth
-shallow-stays k d h = go (isReported k d)
+to-stays k d mm h = go (isReported k d)
   where
-    go : (t : Bool) → isShallow (cond t d notReported) ≡ true
+    go : (t : Bool) → leb (cond t d notReported) mm ≡ true
     go true = h
-    go false = nothing
+    go false = le-leb notReported mm (omega arith)
 
--- and a deeper one of the four deep kinds stays as it is
-deeper-stays : (k d : ℕ) → isDeep k ≡ true → isShallow d ≡ false → isShallow (reportedDepth k d) ≡ false
+-- and what is over a figure, of a kind that is reported from there on, is reported as it is
+over-stays : (k d mm : ℕ) → isReported k (suc mm) ≡ true → ltb mm d ≡ true → ltb mm (reportedDepth k d) ≡ true
 unfolding reportedDepth isReported
-deeper-stays k d deep h = rw (and-i deep (le-leb (leastDepth k) d (reaches k d h))) h
+over-stays k d mm r h = rw (and-i (and-1 _ _ r) (le-leb (leastDepth k) d (omega (arith, leb-true (leastDepth k) (suc mm) (and-2 _ _ r), ltb-true mm d h)))) h
 
 valid-depth : (k d code coverage : ℕ) → leb d greatestDepth ≡ true → validDepth (third code coverage (reportedDepth k d) k) ≡ true
 unfolding validDepth reportedDepth
@@ -81,74 +66,73 @@ valid-coverage k c code depth h = either (eqb (coverageFor c) notReported) (and-
 
 -- ---- code
 
--- a line asks for a depth above 3 mm of the four deep kinds alone
-abbrev asksDeep : Condition → Bool → Bool
-asksDeep Always deep = true
-asksDeep NotSlippery deep = true
-asksDeep Slippery deep = true
-asksDeep Shallow deep = true
-asksDeep Deeper deep = deep
-asksDeep Cold deep = true
-asksDeep Milder deep = true
+-- an entry asks for a depth over a figure only of kinds whose depths are reported from there on
+abbrev asksReported : Condition → ℕ → Bool
+asksReported Always k = true
+asksReported NotSlippery k = true
+asksReported Slippery k = true
+asksReported (DepthTo mm) k = true
+asksReported (DepthOver mm) k = isReported k (suc mm)
+asksReported (TemperatureTo tenths) k = true
+asksReported (TemperatureOver tenths) k = true
 
 unfoldable isSound : Entry → Bool
-isSound l = asksDeep (condition l) (isDeep (kind l)) and isCode (code l)
+isSound e = all (asksReported (condition e)) (named (kinds e)) and isCode (code e)
 
 all-sound : all isSound table1 ≡ true
-unfolding _and_ isSound isDeep table1
+unfolding _and_ isSound isDeep leastDepth isReported table1
 all-sound = refl
 
 -- a condition that held of what was observed can hold of what is reported
-still : (c : Condition) (k : ℕ) (o : Observation) → asksDeep c (isDeep k) ≡ true → holds c o ≡ true → canHold c (reportedDepth k (o .depth)) ≡ true
+still : (c : Condition) (k : ℕ) (o : Observation) → asksReported c k ≡ true → holds c o ≡ true → canHold c (reportedDepth k (o .depth)) ≡ true
 unfolding holds canHold
 still Always k o s h = refl
 still NotSlippery k o s h = refl
 still Slippery k o s h = refl
-still Shallow k o s h = shallow-stays k (o .depth) h
-still Deeper k o s h = rw (deeper-stays k (o .depth) s (not-true _ h))
-still Cold k o s h = refl
-still Milder k o s h = refl
+still (DepthTo mm) k o s h = to-stays k (o .depth) mm h
+still (DepthOver mm) k o s h = over-stays k (o .depth) mm s h
+still (TemperatureTo tenths) k o s h = refl
+still (TemperatureOver tenths) k o s h = refl
 
--- the line that gave the code allows it
-allowed-there : (l : Entry) (k coverage : ℕ) (o : Observation) → isSound l ≡ true → isFor l k o ≡ true
-    → allows l (third (code l) coverage (reportedDepth k (o .depth)) k) ≡ true
-unfolding isSound isFor allows
-allowed-there l k coverage o s f =
-    let same = eqb-true (kind l) k (and-1 _ _ f) in
-    let sound = rw same at (and-1 _ _ s) in
-    and-i (and-1 _ _ f) (and-i (eq-eqb (code l) (code l) refl) (still (condition l) k o sound (and-2 _ _ f)))
+-- the entry that gave the code allows it
+allowed-there : (e : Entry) (k coverage : ℕ) (o : Observation) → isSound e ≡ true → isFor e k o ≡ true
+    → allows e (third (code e) coverage (reportedDepth k (o .depth)) k) ≡ true
+unfolding isSound isNamed isFor allows
+allowed-there e k coverage o s f =
+    let sound = all-at (asksReported (condition e)) (named (kinds e)) k (and-1 _ _ s) (and-1 _ _ f) in
+    and-i (and-1 _ _ f) (and-i (eq-eqb (code e) (code e) refl) (still (condition e) k o sound (and-2 _ _ f)))
 
 module _ (k : ℕ) (o : Observation) where
-  -- the code that some lines give
+  -- the code that some entries give
   abbrev given : List Entry → ℕ
-  given ls = firstFitting (λ l. isFor l k o) code 0 ls
+  given es = firstFitting (λ e. isFor e k o) code 0 es
 
-  -- the third that is reported with a code, and whether some lines allow it
+  -- the third that is reported with a code, and whether some entries allow it
   abbrev reported : ℕ → ℕ → Third
   reported coverage c = third c coverage (reportedDepth k (o .depth)) k
 
   abbrev allowedIn : List Entry → Third → Bool
-  allowedIn ls t = firstFitting (λ l. allows l t) (λ _. true) false ls
+  allowedIn es t = firstFitting (λ e. allows e t) (λ _. true) false es
 
-  given-allowed : (coverage : ℕ) (ls : List Entry) → all isSound ls ≡ true → howMany ls k o ≡ 1 → allowedIn ls (reported coverage (given ls)) ≡ true
+  given-allowed : (coverage : ℕ) (es : List Entry) → all isSound es ≡ true → howMany es k o ≡ 1 → allowedIn es (reported coverage (given es)) ≡ true
   unfolding firstFitting howMany
   given-allowed coverage [] s one = absurd (omega arith)
-  given-allowed coverage (l ∷ ls) s one = go (isFor l k o) refl one (given-allowed coverage ls (and-2 _ _ s))
+  given-allowed coverage (e ∷ es) s one = go (isFor e k o) refl one (given-allowed coverage es (and-2 _ _ s))
     where
       now : Bool → Third
-      now t = reported coverage (cond t (code l) (given ls))
+      now t = reported coverage (cond t (code e) (given es))
 
-      go : (t : Bool) → isFor l k o ≡ t → counted t (howMany ls k o) ≡ 1 → (howMany ls k o ≡ 1 → allowedIn ls (now false) ≡ true)
-          → cond (allows l (now t)) true (allowedIn ls (now t)) ≡ true
-      go true f one later = rw (allowed-there l k coverage o (and-1 _ _ s) f)
-      go false f one later = either (allows l (now false)) (later one)
+      go : (t : Bool) → isFor e k o ≡ t → counted t (howMany es k o) ≡ 1 → (howMany es k o ≡ 1 → allowedIn es (now false) ≡ true)
+          → cond (allows e (now t)) true (allowedIn es (now t)) ≡ true
+      go true f one later = rw (allowed-there e k coverage o (and-1 _ _ s) f)
+      go false f one later = either (allows e (now false)) (later one)
 
-  given-code : (ls : List Entry) → all isSound ls ≡ true → isCode (given ls) ≡ true
+  given-code : (es : List Entry) → all isSound es ≡ true → isCode (given es) ≡ true
   unfolding firstFitting isSound
   given-code [] s = refl
-  given-code (l ∷ ls) s = go (isFor l k o) (and-2 _ _ (and-1 _ _ s)) (given-code ls (and-2 _ _ s))
+  given-code (e ∷ es) s = go (isFor e k o) (and-2 _ _ (and-1 _ _ s)) (given-code es (and-2 _ _ s))
     where
-      go : (t : Bool) → isCode (code l) ≡ true → isCode (given ls) ≡ true → isCode (cond t (code l) (given ls)) ≡ true
+      go : (t : Bool) → isCode (code e) ≡ true → isCode (given es) ≡ true → isCode (cond t (code e) (given es)) ≡ true
       go true here later = here
       go false here later = later
 
@@ -209,7 +193,7 @@ covered-right o k r d =
     }
 
 uncovered-right : (t : Bool) → Right (third 6 notReported notReported (cond t dry notReported))
-unfolding _and_ validCoverage validDepth validThird table1 canHold allows firstFitting agrees
+unfolding _and_ validCoverage validDepth validThird table1 isNamed canHold allows firstFitting agrees
 uncovered-right true = record { valid = refl; agreeing = refl }
 uncovered-right false = record { valid = refl; agreeing = refl }
 

@@ -2,8 +2,8 @@ use native.Mathlib.Numerals.{add-one}
 use borrow.Author.Needs.{needs}
 use lib.Seq.{drop-cons}
 use Rattle.surface.specs.Table1.{table1}
-use Rattle.surface.proofs.line_at.Statement.{statement}
-use Rattle.surface.proofs.line_at.Tie as tie
+use Rattle.surface.proofs.entry_at.Statement.{statement}
+use Rattle.surface.proofs.entry_at.Tie as tie
 
 mul-result : tie.Need-mul-result
 unfolding table1
@@ -17,5 +17,5 @@ returns : tie.Need-returns
 unfolding table1
 returns c = rw add-one (drop-cons table1 (c .before .args .i) _ (c .before .pre))
 
-pub line-at-spec : {M : Type 1} → statement M
-line-at-spec = tie.close (tie.spec mul-result array-copy-out-result returns)
+pub entry-at-spec : {M : Type 1} → statement M
+entry-at-spec = tie.close (tie.spec mul-result array-copy-out-result returns)
