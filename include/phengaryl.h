@@ -40,7 +40,7 @@ extern "C" {
 #define PHENGARYL_LONGEST_DESK(input_length) (3 * (size_t)(input_length) + 1186)
 
 /*
- * Refusal numbers, as document 01 and requests 1 and 2 of document 02 have them. 0 means accepted, taken or written.
+ * Refusal numbers, as document 01 and requests 1, 2 and 5 of document 02 have them. 0 means accepted, taken or written.
  */
 enum phengaryl_refusal {
     PHENGARYL_TAKEN = 0,
@@ -76,7 +76,9 @@ enum phengaryl_refusal {
     PHENGARYL_WRONG_CODES = 25,          /* the codes are wrong or missing */
     PHENGARYL_WRONG_COVERAGE_OR_DEPTH = 26, /* coverage or depth is wrong, missing, forbidden by its description, or left out where the row may not be short */
     PHENGARYL_WRONG_DESCRIPTIONS = 27,   /* the descriptions are wrong or missing */
-    PHENGARYL_WRONG_WIDTH = 28           /* the width, or what follows it or the descriptions, is wrong */
+    PHENGARYL_WRONG_WIDTH = 28,          /* the width, or what follows it or the descriptions, is wrong */
+    /* Two rows */
+    PHENGARYL_RUNWAYS_DIFFER = 29        /* the rows are of different runways */
 };
 
 /*
@@ -157,6 +159,13 @@ typedef struct phengaryl_agreement {
     uint8_t refusal;                     /* 0 or 19 */
     uint8_t count;                       /* how many thirds have a code that Table 1 does not allow; 0 where it is refused */
 } phengaryl_agreement;
+
+/* What a new row changes. */
+typedef struct phengaryl_change {
+    uint8_t refusal;                     /* 0, 19 or 29 */
+    bool counts[3];                      /* whether the change of each third counts; false where it is refused */
+    bool due;                            /* whether a new notice is due; false where it is refused */
+} phengaryl_change;
 
 /* ---- The notice: a record and its parts. Arrays hold zeros past the count. */
 
@@ -315,6 +324,14 @@ phengaryl_assessment phengaryl_assess(phengaryl_observation observation);
  * Counts the thirds of a row whose code is not one that Table 1 allows; 19 where the row is not valid.
  */
 phengaryl_agreement phengaryl_disagreeing(phengaryl_row row);
+
+/*
+ * Tells which thirds of a new row count, and whether a new notice is due. A third counts where its code, coverage or description differs, where one
+ * depth is NR and the other is a number, or where the depths differ by what Table 3 has or more: 3 mm of STANDING WATER or SLUSH, 5 of WET SNOW, 20
+ * of DRY SNOW. A notice is due where a third counts or the width differs; the times don't matter. 19 where either row is not valid, 29 where they
+ * are of different runways. The answer is the same with the rows exchanged.
+ */
+phengaryl_change phengaryl_due(phengaryl_row old_row, phengaryl_row new_row);
 
 /*
  * Reads the text of a row, without its line end: the row, or 5 or 24 to 28 and the place of the

@@ -58,6 +58,7 @@ pub mod refusal {
     pub const WRONG_COVERAGE_OR_DEPTH: u8 = 26;
     pub const WRONG_DESCRIPTIONS: u8 = 27;
     pub const WRONG_WIDTH: u8 = 28;
+    pub const RUNWAYS_DIFFER: u8 = 29;
 }
 
 /// The fifteen descriptions of a surface; 0 stands for NR.
@@ -131,6 +132,14 @@ pub struct RowRead {
 pub struct Agreement {
     pub refusal: u8,
     pub count: u8,
+}
+
+#[repr(C)]
+#[derive(Clone, Copy, Debug, Default, PartialEq, Eq)]
+pub struct Change {
+    pub refusal: u8,
+    pub counts: [bool; 3],
+    pub due: bool,
 }
 
 // ---- The notice
@@ -288,6 +297,7 @@ mod library {
         pub fn phengaryl_list(message: *const u8, length: usize, out: *mut u8, size: usize) -> usize;
         pub fn phengaryl_assess(observation: Observation) -> Assessment;
         pub fn phengaryl_disagreeing(row: Row) -> Agreement;
+        pub fn phengaryl_due(old_row: Row, new_row: Row) -> Change;
         pub fn phengaryl_read_row(text: *const u8, length: usize) -> RowRead;
         pub fn phengaryl_write_row(row: Row, out: *mut u8, size: usize) -> usize;
         pub fn phengaryl_open(aerodrome: *const u8, list: RunwayList) -> Answer;
@@ -354,6 +364,12 @@ pub fn assess(observation: Observation) -> Assessment {
 pub fn disagreeing(row: &Row) -> Agreement {
     // Only values are handed over.
     unsafe { library::phengaryl_disagreeing(*row) }
+}
+
+/// Tells which thirds of a new row count, and whether a new notice is due.
+pub fn due(old_row: &Row, new_row: &Row) -> Change {
+    // Only values are handed over.
+    unsafe { library::phengaryl_due(*old_row, *new_row) }
 }
 
 /// Reads the text of a row, without its line end.

@@ -1,5 +1,9 @@
 //! Messages and rows at the edges: those by hand come with the number and the place the documents give them, and generated
 //! messages follow.
+mod changes;
+
+pub use changes::{row_pairs_by_hand, Pair};
+
 use crate::generate::{self, Rng};
 
 pub const EXAMPLE: &str = "GG XQAAYNYX XQBBYOYX

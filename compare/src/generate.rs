@@ -1,5 +1,6 @@
 //! Seeded inputs: records in every shape, typings of them in every freedom, and damage.
 mod board;
+mod changes;
 mod damage;
 mod desk;
 mod numbers;
@@ -10,6 +11,7 @@ mod structs;
 mod typing;
 
 pub use board::{board_notice, shift};
+pub use changes::row_pair;
 pub use damage::damaged;
 pub use desk::{any_row_line, desk_input, is_sent_by, opening_line, started, two_runs, TwoRuns};
 pub use numbers::{numbers, observation, Observation};

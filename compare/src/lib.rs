@@ -6,6 +6,7 @@
 
 mod assess;
 pub mod desk;
+pub mod due;
 pub mod edges;
 pub mod generate;
 mod isolation;

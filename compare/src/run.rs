@@ -99,6 +99,8 @@ pub fn run(count: usize, seed: u64) -> bool {
     run.report.print_counts_of("messages by hand", &OF_MESSAGES);
     edges::rows_by_hand().iter().for_each(|example| run.row_by_hand(example));
     run.report.print_counts_of("rows by hand", &OF_ROWS);
+    edges::row_pairs_by_hand().iter().for_each(|pair| run.row_pair_by_hand(pair));
+    run.report.print_counts("pairs of rows by hand");
     (0..count).for_each(|_| run.message());
     run.report.print_counts_of("messages", &OF_MESSAGES);
     let equal = (0..tenth).filter(|_| run.pair()).count();
@@ -116,9 +118,12 @@ pub fn run(count: usize, seed: u64) -> bool {
     run.report.print_counts_of("rows as text", &OF_ROWS);
     (0..count).for_each(|_| run.damaged_record());
     run.report.print_counts("damaged records");
+    let due = (0..count).filter(|_| run.row_pair()).count();
+    run.report.print_counts("pairs of rows");
+    println!("pairs of rows for which a notice is due: {due}");
     println!(
         "{count} messages, {tenth} pairs, {tenth} desk inputs, {tenth} board notices, {tenth} live boards, \
-         {count} observations, {count} rows, {count} damaged records, {} differences",
+         {count} observations, {count} rows, {count} pairs of rows, {count} damaged records, {} differences",
         run.report.differences()
     );
     run.report.differences() == 0

@@ -1,4 +1,5 @@
 //! The second reader against itself, and against the models in Python of rows and of the desk.
+mod changes;
 mod places;
 
 use std::io;
@@ -210,6 +211,8 @@ pub fn run(count: usize, seed: u64) -> bool {
     let mut report = Report::new();
     places::by_hand(&mut report);
     report.print_counts_of("messages and rows by hand", &OF_MESSAGES);
+    changes::by_hand(&mut report);
+    report.print_counts("pairs of rows by hand");
     (0..count).for_each(|_| message(&mut rng, &mut report));
     report.print_counts_of("messages", &OF_MESSAGES);
     let tenth = count / 10;
@@ -237,8 +240,12 @@ pub fn run(count: usize, seed: u64) -> bool {
     (0..tenth).for_each(|_| shift(&mut rng, &mut report));
     report.print_counts("answers of boards opened with numbers");
     (0..tenth).for_each(|_| isolation::check(&mut rng, &mut report));
+    let due = (0..count).filter(|_| changes::check(&mut rng, &mut report)).count();
+    report.print_counts("pairs of rows");
+    println!("pairs of rows for which a notice is due: {due} of {count}");
     println!(
-        "{count} messages, {tenth} pairs, {count} observations, {count} rows, {tenth} boards of two runs, {} differences",
+        "{count} messages, {tenth} pairs, {count} observations, {count} rows, {count} pairs of rows, \
+         {tenth} boards of two runs, {} differences",
         report.differences()
     );
     asked.is_ok() && report.differences() == 0

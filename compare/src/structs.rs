@@ -2,6 +2,7 @@
 //!
 //! The way there leaves zeros past each count and in every field that is not used. On the way back such bytes are not looked
 //! at: whether any of them is not zero shows by going there again.
+use crate::due::Change;
 use crate::items::{Banks, Item, Name};
 use crate::library;
 use crate::reader::Record;
@@ -58,6 +59,13 @@ impl From<&library::Row> for Row {
     fn from(row: &library::Row) -> Self {
         let runway = Runway { number: row.number, side: row.side };
         Row { time: row.time, runway, thirds: [0, 1, 2].map(|n| (&row.thirds[n]).into()), width: row.width }
+    }
+}
+
+impl From<Change> for library::Change {
+    fn from(change: Change) -> Self {
+        let Change { refusal, counts, due } = change;
+        library::Change { refusal, counts, due }
     }
 }
 

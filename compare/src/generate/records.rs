@@ -8,7 +8,7 @@ const KEYWORDS: [&str; 12] = ["TWY", "ALL", "POOR", "APRON", "RWY", "SNOWBANK", 
 const TAXIWAY_WORDS: [&str; 7] = ["TWY", "ALL", "RWY", "ADJ", "FM", "TO", "NR"];
 const REAL_TIMES: [u32; 10] =
     [1_010_000, 1_312_359, 2_290_000, 2_292_359, 4_300_000, 6_302_359, 12_312_359, 12_010_000, 1_120_610, 1_120_640];
-const COVERAGES: [u16; 5] = [NR, 25, 50, 75, 100];
+pub const COVERAGES: [u16; 5] = [NR, 25, 50, 75, 100];
 
 pub fn letter(rng: &mut Rng) -> u8 {
     b'A' + rng.below(26) as u8
@@ -37,7 +37,7 @@ pub fn time(rng: &mut Rng) -> u32 {
     (((month * 100 + rng.between(1, days)) * 100 + rng.below(24)) * 100 + rng.below(60)) as u32
 }
 
-fn third(rng: &mut Rng, description: u16) -> Third {
+pub fn third(rng: &mut Rng, description: u16) -> Third {
     let contaminant = description != NR && description != DRY;
     let depth = match least_depth(description) {
         Some(least) if rng.chance(75) => {

@@ -1,8 +1,9 @@
-//! Observations, and rows as numbers and as text.
+//! Observations, rows as numbers and as text, and two rows.
 use super::{filled, Run, Shown, UNTOUCHED};
 use crate::assess;
 use crate::desk;
-use crate::edges::{self, Example};
+use crate::due::{due, Change};
+use crate::edges::{self, Example, Pair};
 use crate::generate;
 use crate::library::{self, Agreement, Assessment, RowRead};
 use crate::row::{Row, Third};
@@ -51,6 +52,28 @@ impl Run {
         self.read_row(&example.text);
         let input = edges::at_desk(example);
         self.prints("desk", &input, &desk::desk(&input), |out| library::desk(&input, out));
+    }
+
+    /// The row shown and a new one. Whether a notice is due.
+    pub fn row_pair(&mut self) -> bool {
+        let (old, new) = generate::row_pair(&mut self.rng);
+        let expected = due(&old, &new);
+        self.told_of_two("two rows", &old, &new, expected);
+        expected.due
+    }
+
+    /// Two rows by hand are answered as it stands there, whatever the second reader tells of them.
+    pub fn row_pair_by_hand(&mut self, pair: &Pair) {
+        self.told_of_two("two rows by hand", &pair.old, &pair.new, pair.change);
+    }
+
+    /// The answer is the same with the rows exchanged.
+    fn told_of_two(&mut self, what: &str, old: &Row, new: &Row, expected: Change) {
+        self.report.count(expected.refusal);
+        let expected = library::Change::from(expected);
+        let (old, new) = (library::Row::from(old), library::Row::from(new));
+        self.agree(what, (old, new), expected, library::due(&old, &new));
+        self.agree(&format!("{what}, exchanged,"), (new, old), expected, library::due(&new, &old));
     }
 
     fn read_row(&mut self, line: &[u8]) {
