@@ -12,6 +12,7 @@ use Rattle.text.specs.Arrays.{pad}
 use Rattle.runway.specs.Time.{later}
 use Rattle.row.specs.declared.Row.{Row}
 use Rattle.row.specs.Row.{validRow, blankRow, isBlankRow}
+unfoldable pub use Rattle.row.specs.Row.{sameRunway}
 use Rattle.rowtext.specs.Reading.{findRow}
 use Rattle.body.specs.declared.Rows.{Rows}
 use Rattle.text.specs.Out.{Out, refuse, taken, next, before, atEnd, After, finished, more}
@@ -28,10 +29,6 @@ rowsOf r = take (r .count) (r .rows)
 -- a list of rows, zeros behind it
 abbrev pub makeRows : List Row → Rows
 makeRows rs = record { count = length rs; rows = pad mostRows blankRow rs }
-
--- rows of one runway: its number and its side
-unfoldable pub sameRunway : Row → Row → Bool
-sameRunway a b = eqb (a .number) (b .number) and eqb (a .side) (b .side)
 
 -- the row's runway is one of those seen
 unfoldable pub isAmong : Row → List Row → Bool

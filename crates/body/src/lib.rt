@@ -13,13 +13,14 @@ ghost use Rattle.text.specs.Lines.{under};
 ghost use Rattle.text.specs.Put.{Put};
 ghost use Rattle.row.specs.Row.{validRow, isBlankRow};
 ghost use Rattle.rowtext.specs.Text.{rowPieces};
-ghost use Rattle.body.specs.Rows.{sameRunway, isAmong, newRunways, latestOf, latest, rowsOf, makeRows, validRows};
+ghost use Rattle.body.specs.Rows.{isAmong, newRunways, latestOf, latest, rowsOf, makeRows, validRows};
 ghost use Rattle.body.specs.Code.Held.{rowLine, noRows, rowsAnswer, RowsHeld};
 use fill::put;
 use fill::told_behind;
 use row::Row;
 use row::blank_row;
 use row::is_blank_row;
+use row::same_runway;
 use row::valid_row;
 use rowtext::put_any_row;
 use rowtext::read_row;
@@ -50,15 +51,6 @@ pub const MOST_ROWS: u8 = 8;
 
 // How many digits a row's time has.
 const TIME_SIZE: usize = 8;
-
-fn same_runway(a: Row, b: Row) -> bool
-    ensures { λ r. ⌜ r ≡ sameRunway a b ⌝ }
-{
-    if a.number == b.number {
-        return a.side == b.side;
-    }
-    false
-}
 
 // Whether the runway of `r` is one of those of the first `count` rows.
 fn is_among(r: Row, rows: [Row; 8], count: u8) -> bool

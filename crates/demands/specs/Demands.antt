@@ -22,6 +22,7 @@ use Rattle.text.specs.Laws.Out.{Within, stopped, Any, number-range}
 use Rattle.text.specs.Refusals.{tooLong, lineOneOrTwo, lineThree, outline, noRow, ninthRow, runwayTwice, wrongItems, wrongLanguage, serialsDiffer}
 use Rattle.text.specs.Refusals.{aerodromesDiffer, notLatestTime, invalidRecord, bufferTooShort, outOfRange, contradiction, wrongBoard, notOnBoard, invalidRow}
 use Rattle.text.specs.Refusals.{notLater, noReport, othersRunway, noDesk, wrongRunway, wrongCodes, wrongCoverageOrDepth, wrongDescriptions, wrongWidth}
+use Rattle.text.specs.Refusals.{runwaysDiffer}
 use Rattle.surface.specs.declared.Observation.{Observation}
 use Rattle.surface.specs.declared.Assessment.{Assessment}
 use Rattle.surface.specs.Descriptions.{notReported, dry}
@@ -31,8 +32,12 @@ use Rattle.surface.specs.Assess.{inRange, contradictory, leastCover, coverageFo
 use Rattle.surface.specs.Assess.{refusedAssessing, assessing}
 use Rattle.row.specs.declared.Row.{Row}
 use Rattle.row.specs.declared.Agreement.{Agreement}
-use Rattle.row.specs.Row.{validRow}
+use Rattle.row.specs.Row.{validRow, thirdOf, sameRunway}
 use Rattle.row.specs.Agreement.{agreement}
+use Rattle.due.specs.declared.Change.{Change}
+use Rattle.due.specs.Change.{noThirds, change}
+use Rattle.due.specs.Counts.{Counts, Comparable, Due}
+use Rattle.due.specs.Theorems as Changes
 use Rattle.rowtext.specs.declared.RowRead.{RowRead}
 use Rattle.rowtext.specs.Reading.{findRow, rowAnswer}
 use Rattle.rowtext.specs.Laws.Faults.{isRowNumber, row-within}
@@ -203,6 +208,14 @@ observation-by-number o a e = rw e (either Named (inRange o) (either Named (not 
 pub agreement-by-number : (r : Row) (a : Agreement) → a ≡ agreement r → a .refusal takenOrRefusedBy (invalidRow ∷ [])
 unfolding agreement
 agreement-by-number r a e = rw e (either (λ (x : Agreement). x .refusal takenOrRefusedBy (invalidRow ∷ [])) (validRow r) refl refl)
+
+-- a new row against the row shown, `compare`: "19 either row invalid, then 29 different runways"
+pub change-by-number : (old new : Row) (a : Change) → a ≡ change old new → a .refusal takenOrRefusedBy (invalidRow ∷ runwaysDiffer ∷ [])
+unfolding change
+change-by-number old new a e = rw e (either Named (validRow old and validRow new) (either Named (sameRunway old new) refl refl) refl)
+  where
+    Named : Change → Type 0
+    Named x = x .refusal takenOrRefusedBy (invalidRow ∷ runwaysDiffer ∷ [])
 
 -- opening a board, `open`: 17
 pub opening-by-number : (aerodrome : List ℕ) (count : ℕ) (runways : List Runway) (owners : List ℕ) (a : Answer) → a ≡ opening aerodrome count runways owners
@@ -385,6 +398,10 @@ refused-agreement r a e h = ap (λ x. x .count) e ∙ either Blank (validRow r) 
     Blank : Agreement → Type 0
     Blank x = (x .refusal ≡ 0 → ⊥) → x .count ≡ 0
 
+-- "both give no thirds", and no notice is due: `compare`
+pub refused-change : (old new : Row) (a : Change) → a ≡ change old new → (a .refusal ≡ 0 → ⊥) → (a .counts ≡ noThirds) × (a .due ≡ false)
+refused-change old new a e h = rw e (Changes.refused-nothing old new (λ z. h (ap (λ x. x .refusal) e ∙ z)))
+
 -- ---- Demand 2
 
 -- "A written valid record reads back as that record": `write`, and then `read` of as many bytes as it answered
@@ -549,3 +566,18 @@ pub desk-prints : (m l : List ℕ) (ls : List (List ℕ)) (b : Board) (xs : List
 desk-prints m l ls b xs e o t {before} room p =
     let (n, holds) = Desk.desk-whole m room p in
     rw (n, holds) (take-front (deskText m) (drop (length (deskText m)) before) ∙ Desk.desk-prints m l ls b xs e (line-opens l b .1 o) t)
+
+-- ---- Request 5: when must we send a new notice? `compare`
+
+-- "Given the row shown and a new row, tell for each third whether the change counts": it does for the reasons of `Counts`, and for no other
+pub third-counts : (old new : Row) (a : Change) → a ≡ change old new → (i : ℕ) → i < 3
+    → (getD (a .counts) i false ≡ true) ↔ (Comparable old new × Counts (thirdOf old i) (thirdOf new i))
+third-counts old new a e i h = rw e (Changes.third-exactly old new i h)
+
+-- "and for the row whether a new notice is due": "when a third counts or the width differs"
+pub notice-due : (old new : Row) (a : Change) → a ≡ change old new → (a .due ≡ true) ↔ (Comparable old new × Due old new)
+notice-due old new a e = rw e (Changes.due-exactly old new)
+
+-- "The answer for a row is the same with old and new exchanged"
+pub same-exchanged : (old new : Row) (a b : Change) → a ≡ change old new → b ≡ change new old → a ≡ b
+same-exchanged old new a b e f = e ∙ (Changes.exchanged old new ∙ sym f)

@@ -13,7 +13,7 @@ use Rattle.text.specs.Read.{skip, readText, readMany}
 use Rattle.runway.specs.Runway.{validRunway}
 use Rattle.runway.specs.Time.{isShortMonth, daysOf, realDay, realClock, realTime, later}
 use Rattle.surface.specs.Descriptions.{isContaminant, isDeep}
-use Rattle.surface.specs.Table1.{table1, isNamed, firstFitting, canHold, allows, agrees}
+use Rattle.surface.specs.Table1.{table1, isNamed, canHold, allows, agrees}
 use Rattle.surface.specs.Third.{isCoverage, validCoverage, leastDepth, isReported, validDepth, validThird}
 use Rattle.thirds.specs.Groups.{measurePieces, readMeasure, readCoverage, readDescription, thirdPieces, readThird, highest, readGroup}
 use Rattle.row.specs.Agreement.{disagrees, disagreements}
@@ -62,6 +62,6 @@ unfolding slots flat _and_ cuts closed allButLast ended run past isMark readCoun
     wholeAwareness onRunway onTaxiways runwayFits amountFits edgeFits countFits isTaxiway validSlot isNew slotsFit taxiwaysFit nameFits numbersFit validItem
     itemText itemPieces lastIs validLanguage wholeLanguage readLength readBank readNeither readDetail readTaxiway readTaxiways readApron readRunwayForm
     readTaxiForm readApronForm readBareForm readForm readBody readItem isAmong newRunways latestOf latestFrom latest readRows noticeLines notice noticeText
-    agreeing readNotice reading Rows.sameRunway table1 isNamed firstFitting canHold allows agrees disagrees disagreements disagreeingThirds
+    agreeing readNotice reading Rows.sameRunway table1 isNamed canHold allows agrees disagrees disagreements disagreeingThirds
     counted acceptedLine refusedLine listed listing
 tables = record { accepted = refl; refused = refl; long = refl }

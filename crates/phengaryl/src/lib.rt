@@ -4,6 +4,7 @@ ghost use mathlib.Core.Path.{_≡_};
 ghost use Rattle.text.specs.Put.{Put};
 ghost use Rattle.surface.specs.Assess.{assessing};
 ghost use Rattle.row.specs.Agreement.{agreement};
+ghost use Rattle.due.specs.Change.{change};
 ghost use Rattle.rowtext.specs.Reading.{findRow, rowAnswer};
 ghost use Rattle.rowtext.specs.Writing.{rowText, WroteRow};
 ghost use Rattle.notice.specs.Reading.{reading};
@@ -27,6 +28,8 @@ use boardnotice::board_notice;
 use boardnotice::write_board;
 use desktext::RunwayList;
 use desktext::desk;
+use due::Change;
+use due::compare;
 use items::Items;
 use items::Language;
 use listing::list;
@@ -105,6 +108,14 @@ pub extern "C" fn phengaryl_disagreeing(row: Row) -> Agreement
     ensures { λ r. ⌜ r ≡ agreement row ⌝ }
 {
     disagreeing(row)
+}
+
+// What a new row changes against the row shown: which thirds count, and whether a new notice is due.
+#[no_mangle]
+pub extern "C" fn phengaryl_due(old: Row, new: Row) -> Change
+    ensures { λ r. ⌜ r ≡ change old new ⌝ }
+{
+    compare(old, new)
 }
 
 // The row of a text, or the number and the place of the group at fault.

@@ -8,7 +8,7 @@ use Rattle.runway.specs.Time.{isShortMonth, daysOf, realDay, realClock, realTim
 use Rattle.runway.specs.Runway.{validRunway}
 use Rattle.surface.specs.Descriptions.{isContaminant, isDeep, notReported, compactedSnow, slush, standingWater, wet, dry}
 use Rattle.surface.specs.Third.{third, blankThird, isBlankThird, isCoverage, validCoverage, leastDepth, isReported, validDepth, validThird}
-use Rattle.surface.specs.Table1.{table1, isNamed, canHold, allows, firstFitting, agrees}
+use Rattle.surface.specs.Table1.{table1, isNamed, canHold, allows, agrees}
 use Rattle.surface.specs.declared.Third.{Third}
 use Rattle.row.specs.Row.{blankRow, threeThat, isBlankRow, validRow, isBare, isSix, isDry, isShort}
 use Rattle.row.specs.Agreement.{disagrees, disagreements, agreement}
@@ -76,5 +76,5 @@ pub record Counts : Type 0 where
 
 pub counts : Counts
 unfolding _and_ isShortMonth daysOf realDay realClock realTime validRunway isContaminant isDeep isCoverage validCoverage leastDepth
-    isReported validDepth validThird threeThat validRow table1 isNamed canHold allows firstFitting agrees disagrees disagreements agreement
+    isReported validDepth validThird threeThat validRow table1 isNamed canHold allows agrees disagrees disagreements agreement
 counts = record { none = refl; one = refl; two = refl; three = refl; invalid = refl }

@@ -3,7 +3,7 @@ use Prim.Native.Nat.{ℕ}
 use mathlib.Core.List.{List, [], _∷_}
 use mathlib.Core.Bool.{Bool, _||_}
 use lib.Dec.{eqb, leb}
-use lib.ListN.{length}
+use lib.ListN.{length, getD}
 use Rattle.text.specs.Choice.{_and_, all}
 use Rattle.runway.specs.Time.{realTime}
 use Rattle.runway.specs.Runway.{validRunway}
@@ -15,6 +15,14 @@ use Rattle.row.specs.declared.Row.{Row}
 -- "blank means all zero"
 abbrev pub blankRow : Row
 blankRow = record { time = 0; number = 0; side = 0; thirds = blankThird ∷ blankThird ∷ blankThird ∷ []; width = 0 }
+
+-- the third at a place, counted from 0
+abbrev pub thirdOf : Row → ℕ → Third
+thirdOf r i = getD (r .thirds) i blankThird
+
+-- rows of one runway: its number and its side
+unfoldable pub sameRunway : Row → Row → Bool
+sameRunway a b = eqb (a .number) (b .number) and eqb (a .side) (b .side)
 
 -- three thirds, and a test holds of each
 unfoldable pub threeThat : (Third → Bool) → List Third → Bool

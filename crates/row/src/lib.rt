@@ -5,7 +5,7 @@ ghost use mathlib.Core.List.{[], _∷_};
 ghost use Prim.Native.Nat.{_≤_};
 ghost use Rattle.text.specs.Choice.{all};
 ghost use Rattle.surface.specs.Third.{validThird, isBlankThird};
-ghost use Rattle.row.specs.Row.{blankRow, isBlankRow, validRow, isBare, isSix, isDry, isShort};
+ghost use Rattle.row.specs.Row.{blankRow, isBlankRow, validRow, sameRunway, isBare, isSix, isDry, isShort};
 ghost use Rattle.row.specs.Agreement.{disagrees, disagreements, agreement};
 use runway::real_time;
 use runway::valid_runway;
@@ -157,6 +157,15 @@ pub fn is_short(r: Row) -> bool
             return true;
         }
         return all_dry(a, b, c);
+    }
+    false
+}
+
+pub fn same_runway(a: Row, b: Row) -> bool
+    ensures { λ r. ⌜ r ≡ sameRunway a b ⌝ }
+{
+    if a.number == b.number {
+        return a.side == b.side;
     }
     false
 }

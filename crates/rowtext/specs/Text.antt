@@ -2,20 +2,14 @@
 use Prim.Native.Nat.{ℕ}
 use mathlib.Core.List.{List, [], _∷_}
 use lib.Dec.{eqb}
-use lib.ListN.{getD}
 use mathlib.Core.Bool.{cond}
 use Rattle.text.specs.Piece.{Piece, nrGroups, _then_, space}
 use Rattle.text.specs.Numbers.{digits}
 use Rattle.runway.specs.Runway.{runwayPieces}
-use Rattle.surface.specs.Third.{blankThird}
 use Rattle.surface.specs.declared.Third.{Third}
 use Rattle.thirds.specs.Groups.{Three, codes, coverages, depths, descriptions, groupPieces}
 use Rattle.row.specs.declared.Row.{Row}
-use Rattle.row.specs.Row.{isShort}
-
--- the third at a place, counted from 0
-abbrev pub thirdOf : Row → ℕ → Third
-thirdOf r i = getD (r .thirds) i blankThird
+use Rattle.row.specs.Row.{thirdOf, isShort}
 
 -- what a third holds for each of the groups
 abbrev pub field : ℕ → Third → ℕ

@@ -1,10 +1,11 @@
--- The fifteen descriptions of document 01, numbered in its order, and NR.
+-- The fifteen descriptions of document 01, numbered in its order, and NR; Table 3 of document 000, of those that have a depth.
 use Prim.Native.Nat.{ℕ}
-use mathlib.Core.List.{List, [], _∷_}
+use mathlib.Core.List.{List, [], _∷_, map}
 use mathlib.Core.Bool.{Bool}
-use lib.Dec.{leb}
-use Rattle.text.specs.Choice.{_and_, member}
+use lib.Dec.{eqb, leb}
+use Rattle.text.specs.Choice.{_and_, member, firstFitting}
 use Rattle.text.specs.Names.{nameAt}
+use Rattle.surface.specs.declared.Contaminant.{Contaminant}
 
 -- NR: nothing is reported
 abbrev pub notReported : ℕ
@@ -86,6 +87,27 @@ isDescription d = leb d dry
 unfoldable pub isContaminant : ℕ → Bool
 isContaminant d = leb compactedSnow d and leb d wetSnowOnIce
 
--- the four deep ones: "STANDING WATER (from 04), SLUSH, WET SNOW and DRY SNOW (each from 03)"
+-- a line of Table 3: a contaminant, the least depth of it that is reported, and the difference that is a significant change, in millimetres
+abbrev pub contaminant : ℕ → ℕ → ℕ → Contaminant
+contaminant kind least significant = record { 0 = kind; 1 = least; 2 = significant }
+
+-- Table 3, in its order
+abbrev pub table3 : List Contaminant
+table3 =
+    contaminant standingWater 4 3  -- 积水 04 03
+    ∷ contaminant slush 3 3  -- 雪浆 03 03
+    ∷ contaminant wetSnow 3 5  -- 湿雪 03 05
+    ∷ contaminant drySnow 3 20  -- 干雪 03 20
+    ∷ []
+
+-- what stands for a line where there is none
+abbrev pub noLine : Contaminant
+noLine = contaminant notReported 0 0
+
+-- the line of a description
+abbrev pub lineOf : ℕ → Contaminant
+lineOf d = firstFitting (λ l. eqb (l .0) d) (λ l. l) noLine table3
+
+-- the deep ones, which have a line: "STANDING WATER (from 04), SLUSH, WET SNOW and DRY SNOW (each from 03)"
 unfoldable pub isDeep : ℕ → Bool
-isDeep d = member (standingWater ∷ slush ∷ wetSnow ∷ drySnow ∷ []) d
+isDeep d = member (map (λ l. l .0) table3) d

@@ -8,7 +8,7 @@ use Rattle.surface.specs.declared.Observation.{Observation}
 use Rattle.surface.specs.declared.Assessment.{Assessment}
 use Rattle.surface.specs.Descriptions.{notReported, compactedSnow, frost, slush, standingWater, wet, isContaminant, isDeep}
 use Rattle.surface.specs.Third.{third, isCoverage, validCoverage, leastDepth, isReported, validDepth, validThird}
-use Rattle.surface.specs.Table1.{table1, minus, isNamed, holds, isFor, firstFitting}
+use Rattle.surface.specs.Table1.{table1, minus, isNamed, holds, isFor}
 use Rattle.surface.specs.Assess.{assessedAs, isKind, isTemperature, inRange, isShallow, coveredDry, deepWet, deepOther, slipperyOther, contradictory, coverageFor}
 use Rattle.surface.specs.Assess.{uncovered, isThinWater, reportedKind, reportedDepth, covered, assessed, assessing}
 
@@ -42,7 +42,7 @@ pub record Edges : Type 0 where
 
 pub edges : Edges
 unfolding Choice._and_ isContaminant isDeep isCoverage validCoverage leastDepth isReported validDepth validThird table1 isNamed holds isFor
-    firstFitting isKind isTemperature inRange isShallow coveredDry deepWet deepOther slipperyOther contradictory coverageFor uncovered isThinWater reportedKind
+    isKind isTemperature inRange isShallow coveredDry deepWet deepOther slipperyOther contradictory coverageFor uncovered isThinWater reportedKind
     reportedDepth covered assessed assessing
 edges =
     record {

@@ -1,4 +1,5 @@
 pub mod Figures
+pub mod Table3
 pub mod Kinds
 pub mod OneLine
 pub mod Reported

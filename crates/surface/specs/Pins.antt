@@ -13,6 +13,7 @@ use Rattle.surface.specs.declared.Assessment.{Assessment}
 use Rattle.surface.specs.Descriptions
 use Rattle.surface.specs.Descriptions.{notReported, compactedSnow, drySnow, drySnowOnCompactedSnow, drySnowOnIce, frost, ice, slush, standingWater}
 use Rattle.surface.specs.Descriptions.{waterOnCompactedSnow, wet, wetIce, wetSnow, wetSnowOnCompactedSnow, wetSnowOnIce, dry, descriptionName}
+use Rattle.surface.specs.Descriptions.{contaminant, lineOf}
 use Rattle.surface.specs.Third
 use Rattle.surface.specs.Third.{third, blankThird, isBlankThird, validThird}
 use Rattle.surface.specs.Table1
@@ -104,6 +105,11 @@ validity =
       not-blank = refl;
     }
 
+-- the lines of Table 3, and what has none
+lines : map lineOf (standingWater ∷ slush ∷ wetSnow ∷ drySnow ∷ frost ∷ [])
+    ≡ contaminant standingWater 4 3 ∷ contaminant slush 3 3 ∷ contaminant wetSnow 3 5 ∷ contaminant drySnow 3 20 ∷ contaminant notReported 0 0 ∷ []
+lines = refl
+
 -- the codes of the entries of Table 1, in its order
 order : map code table1 ≡ 6 ∷ 5 ∷ 5 ∷ 5 ∷ 5 ∷ 5 ∷ 4 ∷ 3 ∷ 3 ∷ 3 ∷ 3 ∷ 3 ∷ 3 ∷ 2 ∷ 2 ∷ 1 ∷ 0 ∷ 0 ∷ 0 ∷ []
 unfolding table1
@@ -115,7 +121,7 @@ signs = refl
 
 -- a kind that has no entry
 unlisted : (o : Observation) → codeFor 0 o ≡ 0
-unfolding Choice._and_ table1 Table1.isNamed Table1.isFor Table1.firstFitting
+unfolding Choice._and_ table1 Table1.isNamed Table1.isFor
 unlisted o = refl
 
 -- the codes that a description agrees with at depth NR, 03 and 04
@@ -145,7 +151,7 @@ agreement :
     ∷ (dry, (6 ∷ [], (6 ∷ [], 6 ∷ [])))
     ∷ (16, ([], ([], [])))
     ∷ []
-unfolding Choice._and_ Table1.table1 Table1.isNamed Table1.canHold Table1.allows Table1.firstFitting Table1.agrees
+unfolding Choice._and_ Table1.table1 Table1.isNamed Table1.canHold Table1.allows Table1.agrees
 agreement = refl
 
 -- what is reported of an observation: kind, cover, depth, temperature, slippery
@@ -181,7 +187,7 @@ kinds :
     ∷ (16, (refusedAssessing 15, refusedAssessing 15))
     ∷ []
 unfolding Choice._and_ Descriptions.isDeep Third.leastDepth Third.isReported Table1.table1 Table1.isNamed Table1.holds Table1.isFor
-    Table1.firstFitting Assess.isKind Assess.isTemperature Assess.inRange Assess.isShallow Assess.coveredDry Assess.deepWet Assess.deepOther Assess.slipperyOther
+    Assess.isKind Assess.isTemperature Assess.inRange Assess.isShallow Assess.coveredDry Assess.deepWet Assess.deepOther Assess.slipperyOther
     Assess.contradictory Assess.coverageFor Assess.uncovered Assess.isThinWater Assess.reportedKind Assess.reportedDepth Assess.covered Assess.assessed
     Assess.assessing
 kinds = refl
@@ -212,7 +218,7 @@ pub record Assessing : Type 0 where
 
 pub assessments : Assessing
 unfolding Choice._and_ Descriptions.isDeep Third.leastDepth Third.isReported Table1.table1 Table1.isNamed Table1.holds Table1.isFor
-    Table1.firstFitting Assess.isKind Assess.isTemperature Assess.inRange Assess.isShallow Assess.coveredDry Assess.deepWet Assess.deepOther Assess.slipperyOther
+    Assess.isKind Assess.isTemperature Assess.inRange Assess.isShallow Assess.coveredDry Assess.deepWet Assess.deepOther Assess.slipperyOther
     Assess.contradictory Assess.coverageFor Assess.uncovered Assess.isThinWater Assess.reportedKind Assess.reportedDepth Assess.covered Assess.assessed
     Assess.assessing
 assessments =

@@ -5,7 +5,7 @@ use mathlib.Core.Bool.{cond, Bool, true, false, not}
 use lib.Dec.{eqb, leb, ltb}
 use lib.IntN.{ℤ, pos, negsuc}
 use lib.Signed.{leZ, ltZ}
-use Rattle.text.specs.Choice.{_and_, member}
+use Rattle.text.specs.Choice.{_and_, member, firstFitting}
 use Rattle.surface.specs.declared.Third.{Third}
 use Rattle.surface.specs.declared.Observation.{Observation}
 use Rattle.surface.specs.declared.Entry.{Entry}
@@ -87,11 +87,6 @@ holds (TemperatureOver tenths) o = ltZ tenths (o .temperature)
 -- the entry is the one for a surface of this kind, so observed
 unfoldable pub isFor : Entry → ℕ → Observation → Bool
 isFor e k o = isNamed (kinds e) k and holds (condition e) o
-
--- what the first entry that passes a test gives, or else the last value
-unfoldable pub firstFitting : {A : Type 0} → (Entry → Bool) → (Entry → A) → A → List Entry → A
-firstFitting test gives else [] = else
-firstFitting test gives else (e ∷ es) = cond (test e) (gives e) (firstFitting test gives else es)
 
 -- the code that Table 1 gives
 abbrev pub codeFor : ℕ → Observation → ℕ

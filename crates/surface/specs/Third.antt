@@ -5,7 +5,7 @@ use mathlib.Core.Bool.{cond, Bool, true}
 use lib.Dec.{eqb, leb}
 use Rattle.text.specs.Choice.{_and_, member}
 use Rattle.surface.specs.declared.Third.{Third}
-use Rattle.surface.specs.Descriptions.{notReported, standingWater, isDescription, isContaminant, isDeep}
+use Rattle.surface.specs.Descriptions.{notReported, isDescription, isContaminant, lineOf, isDeep}
 
 -- a third of a code, a coverage, a depth and a description
 abbrev pub third : ℕ → ℕ → ℕ → ℕ → Third
@@ -33,7 +33,7 @@ validCoverage t = cond (eqb (t .coverage) notReported) true (isCoverage (t .cove
 
 -- "STANDING WATER (from 04), SLUSH, WET SNOW and DRY SNOW (each from 03)"
 unfoldable pub leastDepth : ℕ → ℕ
-leastDepth d = cond (eqb d standingWater) 4 3
+leastDepth d = lineOf d .1
 
 -- a depth that is reported of a surface: "only under" the four deep ones, and from the least value on
 unfoldable pub isReported : ℕ → ℕ → Bool

@@ -5,8 +5,8 @@ ghost use Prim.Native.Nat.{_+_, _<_};
 ghost use mathlib.Core.List.{_∷_};
 ghost use mathlib.Core.Bool.{true};
 ghost use lib.ListN.{length, drop};
-ghost use Rattle.surface.specs.Descriptions.{isContaminant, isDeep};
-ghost use Rattle.surface.specs.Third.{isBlankThird, isCoverage, validCoverage, leastDepth, isReported, validDepth, validThird};
+ghost use Rattle.surface.specs.Descriptions.{isContaminant, table3, lineOf, isDeep};
+ghost use Rattle.surface.specs.Third.{isBlankThird, isCoverage, validCoverage, isReported, validDepth, validThird};
 ghost use Rattle.surface.specs.Table1.{table1, isNamed, holds, isFor, codeFor, canHold, allows, isAllowed, agrees};
 ghost use Rattle.surface.specs.Assess.{isKind, isTemperature, inRange, isShallow, coveredDry, deepWet, deepOther, slipperyOther, contradictory, coverageFor, uncovered, isThinWater, reportedKind, reportedDepth, covered, assessed, assessing};
 use Condition::Always;
@@ -78,21 +78,6 @@ fn is_contaminant(description: u8) -> bool
     description <= WET_SNOW_ON_ICE
 }
 
-fn is_deep(kind: u32) -> bool
-    ensures { λ r. ⌜ r ≡ isDeep kind ⌝ }
-{
-    if STANDING_WATER as u32 == kind {
-        return true;
-    }
-    if SLUSH as u32 == kind {
-        return true;
-    }
-    if WET_SNOW as u32 == kind {
-        return true;
-    }
-    DRY_SNOW as u32 == kind
-}
-
 pub fn is_coverage(coverage: u32) -> bool
     ensures { λ r. ⌜ r ≡ isCoverage coverage ⌝ }
 {
@@ -121,20 +106,58 @@ pub fn valid_coverage(t: Third) -> bool
     false
 }
 
-// The least depth that is reported of a deep surface.
-fn least_depth(description: u8) -> u16
-    ensures { λ r. ⌜ r ≡ leastDepth description ⌝ }
+// A contaminant that has a depth, the least of it that is reported, and the difference that is a significant change, in millimetres.
+pub struct Contaminant(pub u8, pub u16, pub u16);
+
+const DEEP: usize = 4;
+
+// One line for each line of Table 3 of document 000, in its order.
+const TABLE_3: [Contaminant; DEEP] = [
+    Contaminant(STANDING_WATER, 4, 3), // 积水 04 03
+    Contaminant(SLUSH, 3, 3), // 雪浆 03 03
+    Contaminant(WET_SNOW, 3, 5), // 湿雪 03 05
+    Contaminant(DRY_SNOW, 3, 20), // 干雪 03 20
+];
+
+const NO_LINE: Contaminant = Contaminant(NR, 0, 0);
+
+// The line at a place of the table counted from 0: the first of those that are left from there.
+fn contaminant_at(i: usize) -> Contaminant
+    requires { ⌜ i < length table3 ⌝ }
+    ensures { λ r. ⌜ drop i table3 ≡ r ∷ drop (i + 1) table3 ⌝ }
 {
-    if description == STANDING_WATER { 4 } else { 3 }
+    TABLE_3[i]
+}
+
+// The line of Table 3 that a kind has, or the one that stands for none: its least depth is 0, and no line's is.
+pub fn line_of(kind: u32) -> Contaminant
+    ensures { λ r. ⌜ r ≡ lineOf kind ⌝ }
+{
+    let mut i = 0;
+    while i < DEEP {
+        let l = contaminant_at(i);
+        if l.0 as u32 == kind {
+            return l;
+        }
+        i += 1;
+    }
+    NO_LINE
+}
+
+fn is_deep(kind: u32) -> bool
+    ensures { λ r. ⌜ r ≡ isDeep kind ⌝ }
+{
+    line_of(kind).1 != 0
 }
 
 fn is_reported(description: u8, depth: u16) -> bool
     ensures { λ r. ⌜ r ≡ isReported description depth ⌝ }
 {
-    if is_deep(description as u32) {
-        return least_depth(description) <= depth;
+    let line = line_of(description as u32);
+    if line.1 == 0 {
+        return false;
     }
-    false
+    line.1 <= depth
 }
 
 const GREATEST_DEPTH: u32 = 999;

@@ -30,6 +30,11 @@ abbrev pub member : List ℕ → ℕ → Bool
 member [] a = false
 member (b ∷ bs) a = cond (eqb b a) true (member bs a)
 
+-- what the first of a list that passes a test gives, or else the last value
+abbrev pub firstFitting : {L A : Type 0} → (L → Bool) → (L → A) → A → List L → A
+firstFitting test gives else [] = else
+firstFitting test gives else (l ∷ ls) = cond (test l) (gives l) (firstFitting test gives else ls)
+
 -- two lists are the same one by one, by a test
 abbrev pub sameAll : {A : Type 0} → (A → A → Bool) → List A → List A → Bool
 sameAll p [] [] = true

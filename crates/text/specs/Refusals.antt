@@ -112,3 +112,7 @@ wrongDescriptions = 27
 -- "28 width or what follows"
 abbrev pub wrongWidth : ℕ
 wrongWidth = 28
+
+-- document 02, request 5: "29 different runways"
+abbrev pub runwaysDiffer : ℕ
+runwaysDiffer = 29

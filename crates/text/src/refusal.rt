@@ -83,3 +83,6 @@ pub const WRONG_DESCRIPTIONS: u8 = 27;
 
 // Its width, or what follows.
 pub const WRONG_WIDTH: u8 = 28;
+
+// Two rows are compared that are of different runways.
+pub const RUNWAYS_DIFFER: u8 = 29;

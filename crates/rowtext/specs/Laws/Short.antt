@@ -14,9 +14,8 @@ use Rattle.surface.specs.Third.{validCoverage, validDepth}
 use Rattle.surface.specs.declared.Third.{Third}
 use Rattle.thirds.specs.Groups.{Three, coverages, depths, descriptions, readGroup}
 use Rattle.thirds.specs.Laws.Alike.{coverages-descriptions}
-use Rattle.row.specs.Row.{isShort}
+use Rattle.row.specs.Row.{thirdOf, isShort}
 use Rattle.row.specs.declared.Row.{Row}
-use Rattle.rowtext.specs.Text.{thirdOf}
 use Rattle.rowtext.specs.Reading.{allNR, parted, each, mayCover, mayLie, readWidth}
 use Rattle.rowtext.specs.Reading.{coverageGroup, depthGroup, descriptionGroup, short}
 use Rattle.rowtext.specs.Code.Filling.{withRest, withWidth, fullRest, shortRest}

@@ -8,8 +8,9 @@ use native.Mathlib.Omega.{arith}
 use Rattle.text.specs.Choice.{_and_, all}
 use Rattle.text.specs.Laws.Base.{and-1, and-2, and-i}
 use Rattle.runway.specs.Time.{realTime}
-use Rattle.surface.specs.Descriptions.{notReported, standingWater, dry}
+use Rattle.surface.specs.Descriptions.{notReported, dry, isDeep}
 use Rattle.surface.specs.Third.{third, isCode, isCoverage, leastDepth, isReported, validCoverage, validDepth, validThird}
+use Rattle.surface.specs.Laws.Table3.{least-3}
 use Rattle.surface.specs.declared.Third.{Third}
 use Rattle.thirds.specs.Groups.{Three, descriptions, highest}
 use Rattle.thirds.specs.Laws.Groups.{Shown}
@@ -34,15 +35,15 @@ cover-may t h = go (eqb (t .coverage) notReported) _ h
     go false e k = and-1 (isCoverage (t .coverage)) e k
 
 pub depth-may : (t : Third) → validDepth t ≡ true → mayLie (t .depth) ≡ true
-unfolding validDepth mayLie isReported leastDepth
-depth-may t h = go (eqb (t .depth) notReported) (eqb (t .description) standingWater) _ _ h
+unfolding validDepth mayLie isReported
+depth-may t h = go (eqb (t .depth) notReported) _ h
   where
-    go : (b s e f : Bool) → cond b true ((e and leb (cond s 4 3) (t .depth)) and f) ≡ true → cond b true (leb 3 (t .depth)) ≡ true
-    go true s e f k = refl
-    go false true e f k =
-        let l = leb-true 4 (t .depth) (and-2 e (leb 4 (t .depth)) (and-1 (e and leb 4 (t .depth)) f k)) in
-        le-leb 3 (t .depth) (omega arith)
-    go false false e f k = and-2 e (leb 3 (t .depth)) (and-1 (e and leb 3 (t .depth)) f k)
+    go : (b f : Bool) → cond b true ((isDeep (t .description) and leb (leastDepth (t .description)) (t .depth)) and f) ≡ true → cond b true (leb 3 (t .depth)) ≡ true
+    go true f k = refl
+    go false f k =
+        let r = and-1 (isDeep (t .description) and leb (leastDepth (t .description)) (t .depth)) f k in
+        let l = leb-true (leastDepth (t .description)) (t .depth) (and-2 (isDeep (t .description)) _ r) in
+        le-leb 3 (t .depth) (omega (arith, least-3 (t .description) (and-1 (isDeep (t .description)) _ r)))
 
 third-sound : (a b c d : ℕ) → validThird (third a b c d) ≡ true → Sound a b c d
 unfolding validThird

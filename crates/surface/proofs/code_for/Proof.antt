@@ -3,7 +3,8 @@ use Prim.Native.Nat.{_≤_, _-_}
 use mathlib.Core.Path.{_≡_, refl, sym, _∙_}
 use native.Mathlib.Omega.{arith}
 use lib.ListN.{length, drop, drop-of-length-le}
-use Rattle.surface.specs.Table1.{table1, firstFitting, isFor, code, codeFor}
+use Rattle.text.specs.Choice.{firstFitting}
+use Rattle.surface.specs.Table1.{table1, isFor, code, codeFor}
 use Rattle.surface.proofs.Entries.{here, further, nowhere}
 use Rattle.surface.proofs.code_for.Statement.{statement}
 use Rattle.surface.proofs.code_for.Tie as tie

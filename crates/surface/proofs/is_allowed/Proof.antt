@@ -4,7 +4,8 @@ use mathlib.Core.Path.{_≡_, refl, sym, _∙_}
 use native.Mathlib.Omega.{arith}
 use mathlib.Core.Bool.{true, false}
 use lib.ListN.{length, drop, drop-of-length-le}
-use Rattle.surface.specs.Table1.{table1, firstFitting, allows, isAllowed}
+use Rattle.text.specs.Choice.{firstFitting}
+use Rattle.surface.specs.Table1.{table1, allows, isAllowed}
 use Rattle.surface.proofs.Entries.{here, further, nowhere}
 use Rattle.surface.proofs.is_allowed.Statement.{statement}
 use Rattle.surface.proofs.is_allowed.Tie as tie

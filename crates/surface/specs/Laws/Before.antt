@@ -7,7 +7,7 @@ use mathlib.Core.Bool.{cond, Bool, true, false, not}
 use lib.Dec.{eqb, leb}
 use lib.IntN.{ℤ}
 use lib.Signed.{leZ}
-use Rattle.text.specs.Choice.{_and_}
+use Rattle.text.specs.Choice.{_and_, firstFitting}
 use Rattle.surface.specs.declared.Third.{Third}
 use Rattle.surface.specs.declared.Observation.{Observation}
 use Rattle.surface.specs.declared.Entry.{Entry}
@@ -16,7 +16,7 @@ use Rattle.surface.specs.declared.Condition.{Condition}
 use Rattle.surface.specs.declared.Condition.the-variants.{Always, NotSlippery, Slippery, DepthTo, DepthOver, TemperatureTo, TemperatureOver}
 use Rattle.surface.specs.Descriptions.{compactedSnow, drySnow, drySnowOnCompactedSnow, drySnowOnIce, frost, ice, slush, standingWater}
 use Rattle.surface.specs.Descriptions.{waterOnCompactedSnow, wet, wetIce, wetSnow, wetSnowOnCompactedSnow, wetSnowOnIce, dry}
-use Rattle.surface.specs.Table1.{table1, entry, code, minus, minus15Degrees, isNamed, holds, isFor, firstFitting, codeFor, canHold, allows, isAllowed}
+use Rattle.surface.specs.Table1.{table1, entry, code, minus, minus15Degrees, isNamed, holds, isFor, codeFor, canHold, allows, isAllowed}
 use Rattle.surface.specs.Laws.Figures.{over-is, milder-is}
 
 -- ---- what stood there
@@ -169,13 +169,13 @@ two-kinds true false false a b = refl
 two-kinds false there h a b = one-kind there h a b
 
 code-alike : (kind : ℕ) (o : Observation) {es : List Entry} {ls : List Line} → Stand es ls → firstFitting (λ e. isFor e kind o) code 0 es ≡ codeOf kind o ls
-unfolding isNamed isFor firstFitting
+unfolding isNamed isFor
 code-alike kind o end = refl
 code-alike kind o (one {c} {k} says rest) = rw (same-held says o, one-kind (eqb k kind) _ c _, code-alike kind o rest)
 code-alike kind o (two {c} {k} {j} says rest) = rw (same-held says o, two-kinds (eqb k kind) (eqb j kind) _ c _, code-alike kind o rest)
 
 allowed-alike : (t : Third) {es : List Entry} {ls : List Line} → Stand es ls → firstFitting (λ e. allows e t) (λ _. true) false es ≡ allowedBy t ls
-unfolding isNamed allows firstFitting
+unfolding isNamed allows
 allowed-alike t end = refl
 allowed-alike t (one {c} {k} says rest) = rw (same-hold says (t .depth), one-kind (eqb k (t .description)) _ true _, allowed-alike t rest)
 allowed-alike t (two {c} {k} {j} says rest) =

@@ -6,7 +6,7 @@ use mathlib.Core.List.{List, [], _∷_}
 use lib.Dec.{eqb, leb, ltb}
 use borrow.Author.Tests.{leb-true, le-leb, eqb-false, eq-eqb, ltb-true, ltb-false, lt-ltb}
 use native.Mathlib.Omega.{arith}
-use Rattle.text.specs.Choice.{_and_, all}
+use Rattle.text.specs.Choice.{_and_, all, firstFitting}
 use Rattle.text.specs.Laws.Base.{and-1, and-2, and-i}
 use Rattle.text.specs.Laws.Names.{all-at}
 use Rattle.surface.specs.declared.Third.{Third}
@@ -16,7 +16,7 @@ use Rattle.surface.specs.declared.Condition.{Condition}
 use Rattle.surface.specs.declared.Condition.the-variants.{Always, NotSlippery, Slippery, DepthTo, DepthOver, TemperatureTo, TemperatureOver}
 use Rattle.surface.specs.Descriptions.{notReported, standingWater, wet, wetSnowOnIce, dry, isContaminant, isDeep}
 use Rattle.surface.specs.Third.{third, blankThird, isCode, isCoverage, validCoverage, leastDepth, isReported, validDepth, validThird, greatestDepth}
-use Rattle.surface.specs.Table1.{table1, named, code, kinds, condition, isNamed, holds, isFor, firstFitting, canHold, allows, agrees}
+use Rattle.surface.specs.Table1.{table1, named, code, kinds, condition, isNamed, holds, isFor, canHold, allows, agrees}
 use Rattle.surface.specs.Assess.{isKind, inRange, coveredDry, contradictory, coverageFor, uncovered, isThinWater, reportedKind, reportedDepth}
 use Rattle.surface.specs.Assess.{covered, assessed, assessing, leastCover, assessedAs, refusedAssessing}
 use Rattle.text.specs.Refusals.{outOfRange, contradiction}
@@ -115,7 +115,7 @@ module _ (k : ℕ) (o : Observation) where
   allowedIn es t = firstFitting (λ e. allows e t) (λ _. true) false es
 
   given-allowed : (coverage : ℕ) (es : List Entry) → all isSound es ≡ true → howMany es k o ≡ 1 → allowedIn es (reported coverage (given es)) ≡ true
-  unfolding firstFitting howMany
+  unfolding howMany
   given-allowed coverage [] s one = absurd (omega arith)
   given-allowed coverage (e ∷ es) s one = go (isFor e k o) refl one (given-allowed coverage es (and-2 _ _ s))
     where
@@ -128,7 +128,7 @@ module _ (k : ℕ) (o : Observation) where
       go false f one later = either (allows e (now false)) (later one)
 
   given-code : (es : List Entry) → all isSound es ≡ true → isCode (given es) ≡ true
-  unfolding firstFitting isSound
+  unfolding isSound
   given-code [] s = refl
   given-code (e ∷ es) s = go (isFor e k o) (and-2 _ _ (and-1 _ _ s)) (given-code es (and-2 _ _ s))
     where
@@ -193,7 +193,7 @@ covered-right o k r d =
     }
 
 uncovered-right : (t : Bool) → Right (third 6 notReported notReported (cond t dry notReported))
-unfolding _and_ validCoverage validDepth validThird table1 isNamed canHold allows firstFitting agrees
+unfolding _and_ validCoverage validDepth validThird table1 isNamed canHold allows agrees
 uncovered-right true = record { valid = refl; agreeing = refl }
 uncovered-right false = record { valid = refl; agreeing = refl }
 

@@ -1,7 +1,7 @@
 use Rattle.text.specs.Laws.Tests.{tests}
-use Rattle.body.specs.Rows.{sameRunway}
-use Rattle.body.proofs.same_runway.Statement.{statement}
-use Rattle.body.proofs.same_runway.Tie as tie
+use Rattle.row.specs.Row.{sameRunway}
+use Rattle.row.proofs.same_runway.Statement.{statement}
+use Rattle.row.proofs.same_runway.Tie as tie
 
 returns : tie.Need-returns
 unfolding sameRunway

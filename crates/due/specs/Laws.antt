@@ -1,0 +1,4 @@
+pub mod Size
+pub mod Figure
+pub mod Third
+pub mod Change
