@@ -7,7 +7,7 @@
     python3 compare/desk.py run PROGRAM N     runs PROGRAM on N seeded inputs, fed in pieces, and compares
 
 The model gives each desk a board of its own, keeps the reports and works out what each runway shows from all of them, where the program has
-one board and keeps only what is shown.
+one board and keeps only what is shown. Times are told apart by their month's place in the season first, and by the other digits then.
 """
 import random
 import re
@@ -21,6 +21,15 @@ SIDES = ["", "L", "C", "R"]
 
 def order(runway):
     return int(runway[:2]), SIDES.index(runway[2:])
+
+
+# The months as a season has them, from 1 July to 30 June.
+SEASON = "07 08 09 10 11 12 01 02 03 04 05 06".split()
+
+
+def observed(row):
+    """When a row was observed, in the order of the season; a time alone will do."""
+    return SEASON.index(row[:2]), row[2:8]
 
 
 OPENING = re.compile("[A-Z]{4}((?: (?:0[1-9]|1[0-8])[LCR]?/[12]){1,8})")
@@ -57,7 +66,7 @@ def answers(message):
         return "REFUSED 17\n"
     boards = {desk: {r: [] for r in owners if owners[r] == desk} for desk in "12"}
     out = ["OPEN"] + [reported(boards, report(line)) for line in lines[1:]]
-    out += [max(boards[owners[r]][r]) for r in owners if boards[owners[r]][r]]
+    out += [max(boards[owners[r]][r], key=observed) for r in owners if boards[owners[r]][r]]
     return "\n".join(out) + "\n"
 
 
@@ -71,7 +80,7 @@ def reported(boards, told):
     taken = boards[desk].get(runway)
     if taken is None:
         return "22" if any(runway in board for board in boards.values()) else "18"
-    if any(time <= row[:8] for row in taken):
+    if any(observed(time) <= observed(row) for row in taken):
         return "20"
     taken.append(text)
     return "0"
@@ -115,13 +124,23 @@ def seeded_sender(rng, owner):
     return {"1": "2", "2": "1"}[owner] if kind < 0.87 else rng.choice("03456789")
 
 
-def seeded_line(rng, owners):
+# The times of a shift: of one morning, of New Year's night, about 1 July, where a season ends and another starts, and about the end of
+# February; at last some of each.
+SHIFTS = [
+    ["0112%02d%02d" % (hour, minute) for hour in range(3) for minute in range(10)],
+    "12312349 12312350 12312359 01010000 01010001 01010010".split(),
+    "06302350 06302358 06302359 07010000 07010001 07010010".split(),
+    "02282358 02282359 02290000 02292359 03010000 03010001".split(),
+]
+SHIFTS.append([time for times in SHIFTS for time in times[-4:]])
+
+
+def seeded_line(rng, owners, times):
     row = seeded_row(rng)
     owner = rng.choice("12")
     if rng.random() < 0.85:
-        time = "0112%02d%02d" % (rng.randint(0, 2), rng.randint(0, 9))
         runway = rng.choice(list(owners))
-        row, owner = " ".join([time, runway]) + behind_runway(row), owners[runway]
+        row, owner = " ".join([rng.choice(times), runway]) + behind_runway(row), owners[runway]
     line = seeded_sender(rng, owner) + " " + row
     kind = rng.random()
     if kind < 0.12:
@@ -144,13 +163,14 @@ def seeded_line(rng, owners):
 def seeded_input(seed):
     rng = random.Random(seed)
     first, owners = seeded_opening(rng)
+    times = rng.choice(SHIFTS)
     lines = [first]
     for _ in range(rng.randint(0, 40)):
         if len(lines) > 1 and rng.random() < 0.15:
             # sent again, by whichever desk
             lines.append(rng.choice("12") + rng.choice(lines[1:])[1:])
         else:
-            lines.append(seeded_line(rng, owners))
+            lines.append(seeded_line(rng, owners, times))
     ends = [rng.choice(["\n", "\n", "\r\n"]) for _ in lines]
     if rng.random() < 0.3:
         ends[-1] = rng.choice(["", "\r"])
@@ -166,7 +186,7 @@ def stretched(line, size):
 STORED = "".join(
     line + "\n"
     for line in [
-        "XQAA 07/1 07L/1 07R/2 18C/2",
+        "XQAA 07/1 07L/1 07R/2 17L/2 17R/1 18C/2 18R/1",
         "1 01120610 07L 3/5/5 75/25/NR 12/NR/NR DRY SNOW/FROST/DRY",
         "2 01120640 07R  6/6/6 NR/NR/NR NR/NR/NR DRY/DRY/DRY",
         # the same again, by the other desk, by none; an earlier one, a later one by the other desk and by the owner
@@ -210,6 +230,19 @@ STORED = "".join(
         "1 ",
         "2 02290000 18C 5/5/5 NR/25/50 NR/NR/NR WET/FROST/FROST",
         "2 02300000 18C 6/6/6 NR/NR/NR",
+        # New Year's night: 1 January is the later one, and 31 December comes too late then
+        "1 12312350 18R 6/6/6 DRY/DRY/DRY",
+        "1 01010010 18R 6/6/6 DRY/DRY/DRY",
+        "1 12312359 18R 6/6/6 DRY/DRY/DRY",
+        # the season's last time and its first, in either order
+        "2 06302359 17L 6/6/6 DRY/DRY/DRY",
+        "2 07010000 17L 6/6/6 DRY/DRY/DRY",
+        "1 07010000 17R 6/6/6 DRY/DRY/DRY",
+        "1 06302359 17R 6/6/6 DRY/DRY/DRY",
+        # from 29 February on, and back
+        "2 03010000 18C 6/6/6 DRY/DRY/DRY",
+        "2 02282359 18C 6/6/6 DRY/DRY/DRY",
+        "2 12312359 18C 6/6/6 DRY/DRY/DRY",
     ]
 )
 

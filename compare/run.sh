@@ -3,8 +3,8 @@
 #
 #     compare/run.sh DIRECTORY [N [SEED]]
 #
-# DIRECTORY holds libphengaryl.a; `rt staticlib phengaryl` writes it to target/staticlib. The messages, rows and pairs of rows
-# by hand come first. N messages (20000 if not said), as many observations, rows, pairs of rows and damaged records, and a
+# DIRECTORY holds libphengaryl.a; `rt staticlib phengaryl` writes it to target/staticlib. The messages, rows, pairs of rows
+# and reports by hand come first. N messages (20000 if not said), as many observations, rows, pairs of rows and damaged records, and a
 # tenth of that of pairs, desk inputs, board notices and live boards are made from SEED (1 if not said) and put to both. The
 # counts show how often each refusal was met. The first differences are shown, each text with its bytes escaped; the last line
 # counts them all, and the status is 0 only if there are none.

@@ -160,7 +160,8 @@ fn altered(rng: &mut Rng, record: &Record) -> Record {
     let byte = rng.pick(&[0, 0, b'A', b'Z', b'0', b'9', b' ', b'.', b')', any]);
     let small = rng.pick(&[0, 1, 2, 3, 4, 6, 7, 8, 9, 15, 16, 18, 19, 25, 32, 33, 36, 37, 99, 100, any]);
     let amount = rng.pick(&[0, 1, 3, 4, 99, 100, 999, 1000, 9999, 10_000, u16::MAX]);
-    let time = rng.pick(&[0, 10_000, 1_010_000, 2_290_000, 2_300_000, 12_312_359, 101_010_000, u32::MAX]);
+    let unreal = rng.pick(&[0, 10_000, 2_300_000, 101_010_000, u32::MAX]);
+    let time = rng.pick(&[unreal, unreal, 1_010_000, 2_290_000, 6_302_359, 7_010_000, 12_312_359]);
     let row = &mut other.rows.rows[rng.below(8)];
     let third = &mut row.thirds[rng.below(3)];
     let item = &mut other.items.items[rng.below(32).min(rng.below(32))];

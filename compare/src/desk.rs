@@ -2,6 +2,7 @@
 //! notice.
 use crate::reader::{self, Record, LONGEST_MESSAGE};
 use crate::row::{Row, Runway, REPORTED};
+use crate::season;
 use crate::text::{letters, lines};
 
 pub const MOST_RUNWAYS: usize = 8;
@@ -216,7 +217,7 @@ impl Board {
         if u32::from(place.owned.owner) != desk {
             return Err(22);
         }
-        if place.shown.as_ref().map_or(false, |shown| row.time <= shown.time) {
+        if place.shown.as_ref().map_or(false, |shown| !season::is_later(row.time, shown.time)) {
             return Err(20);
         }
         place.shown = Some(row);
@@ -230,7 +231,7 @@ impl Board {
 
     /// The stored time: the latest of the rows shown, 0 for none. It is worked out anew from all of them each time.
     fn latest(&self) -> u32 {
-        self.shown().map(|row| row.time).max().unwrap_or(0)
+        season::latest(self.shown().map(|row| row.time)).unwrap_or(0)
     }
 }
 
@@ -482,15 +483,15 @@ mod tests {
     fn the_heading_time_of_a_notice_is_the_latest_of_its_rows() {
         let third = |desk: &str| noticed(desk, MODEL).map(|text| text.lines().nth(2).unwrap_or_default().to_string());
         let heading = |time: &str| Ok(format!("SWZZ0123 XQAA {time}"));
-        let late_left = "1 12010000 07L 6/6/6 NR/NR/NR\n";
-        let early_right = "2 01310000 07R 6/6/6 NR/NR/NR\n";
-        // Neither the last row's nor the last reported one's, and never a refused report's.
-        assert_eq!(third(&format!("{BOARD}{late_left}{early_right}")), heading("12010000"));
-        assert_eq!(third(&format!("{BOARD}{late_left}{LEFT}{early_right}")), heading("12010000"));
+        let late_left = "1 01310000 07L 6/6/6 NR/NR/NR\n";
+        let early_right = "2 12010000 07R 6/6/6 NR/NR/NR\n";
+        // Neither the last row's nor the last reported one's nor the greatest number, and never a refused report's.
+        assert_eq!(third(&format!("{BOARD}{late_left}{early_right}")), heading("01310000"));
+        assert_eq!(third(&format!("{BOARD}{late_left}{LEFT}{early_right}")), heading("01310000"));
         for refused in
-            ["1 12010000 18 6/6/6 NR/NR/NR\n", "2 12010000 07L 6/6/6 NR/NR/NR\n", "12010000 07R 6/6/6 NR/NR/NR\n"]
+            ["1 01310000 18 6/6/6 NR/NR/NR\n", "2 01310000 07L 6/6/6 NR/NR/NR\n", "01310000 07R 6/6/6 NR/NR/NR\n"]
         {
-            assert_eq!(third(&format!("{BOARD}{early_right}{refused}")), heading("01310000"));
+            assert_eq!(third(&format!("{BOARD}{early_right}{refused}")), heading("12010000"));
         }
     }
 
@@ -650,16 +651,16 @@ mod tests {
             // Of other runways: earlier, equal, later; then the first one's again, up to the latest and over it.
             report(1, "01120639 07L 6/6/6 NR/NR/NR"),
             report(1, "01120640 18L 6/6/6 NR/NR/NR"),
-            report(1, "12310000 18L 6/6/6 NR/NR/NR"),
+            report(1, "06300000 18L 6/6/6 NR/NR/NR"),
             report(1, "01120640 07L 6/6/6 NR/NR/NR"),
-            report(2, "12312359 08L 6/6/6 NR/NR/NR"),
+            report(2, "06302359 08L 6/6/6 NR/NR/NR"),
             // Refused by 20, 22, 18 and 24.
-            report(2, "12312359 08L 6/6/6 NR/NR/NR"),
-            report(1, "12312359 08L 6/6/6 NR/NR/NR"),
-            report(1, "12312359 09 6/6/6 NR/NR/NR"),
-            report(1, "12312359 19 6/6/6 NR/NR/NR"),
+            report(2, "06302359 08L 6/6/6 NR/NR/NR"),
+            report(1, "06302359 08L 6/6/6 NR/NR/NR"),
+            report(1, "06302359 09 6/6/6 NR/NR/NR"),
+            report(1, "06302359 19 6/6/6 NR/NR/NR"),
         ];
-        let (early, late, last) = (1_120_640, 12_310_000, 12_312_359);
+        let (early, late, last) = (1_120_640, 6_300_000, 6_302_359);
         let times = [0, 0, 0, 0, 0, early, early, early, late, late, last, last, last, last, last];
         assert_eq!(stored(&reports), times);
         assert!(stored_times(&Shift { count: 9, ..shift() }).is_none());
@@ -668,18 +669,43 @@ mod tests {
     #[test]
     fn the_stored_time_is_the_same_in_whatever_order_it_is_reported() {
         let reports = [
-            report(1, "01120640 07L 6/6/6 NR/NR/NR"),
-            report(1, "01120641 07L 6/6/6 NR/NR/NR"),
-            report(2, "01120639 08L 6/6/6 NR/NR/NR"),
-            report(1, "01120642 08L 6/6/6 NR/NR/NR"),
+            report(1, "12312350 07L 6/6/6 NR/NR/NR"),
+            report(1, "01010010 07L 6/6/6 NR/NR/NR"),
+            report(2, "12312359 08L 6/6/6 NR/NR/NR"),
+            report(1, "01010011 08L 6/6/6 NR/NR/NR"),
         ];
         for first in 0..4 {
             let mut turned = reports.to_vec();
             turned.rotate_left(first);
-            assert_eq!(stored(&turned).last(), Some(&1_120_641));
+            assert_eq!(stored(&turned).last(), Some(&1_010_010));
             turned.reverse();
-            assert_eq!(stored(&turned).last(), Some(&1_120_641));
+            assert_eq!(stored(&turned).last(), Some(&1_010_010));
         }
+    }
+
+    #[test]
+    fn the_nights_by_hand() {
+        for night in crate::edges::nights_by_hand() {
+            let input = night.input();
+            let shown = input.escape_ascii().to_string();
+            assert_eq!(desk(&input), night.printed(), "{shown}");
+            let stored = Shift::read(&input).and_then(|shift| stored_times(&shift));
+            assert_eq!(stored, Some(night.stored()), "{shown}");
+            let text = notice(&input, MODEL.as_bytes()).expect("a notice");
+            assert_eq!(reader::heading_time(&text).as_ref(), night.stored().last(), "{shown}");
+        }
+    }
+
+    /// What the model in Python wrote and answered is answered the same here, and has the station's own case.
+    #[test]
+    fn the_stored_input() {
+        let input = include_bytes!("../../crates/desk/stdin");
+        let output = include_bytes!("../../crates/desk/stdout");
+        assert_eq!(desk(input), output);
+        let answers: Vec<(&[u8], &[u8])> = lines(input).into_iter().zip(lines(output)).collect();
+        let answered = |line: &str, answer: &str| answers.contains(&(line.as_bytes(), answer.as_bytes()));
+        assert!(answered("1 12312350 18R 6/6/6 DRY/DRY/DRY", "0") && answered("1 01010010 18R 6/6/6 DRY/DRY/DRY", "0"));
+        assert!(answered("1 12312359 18R 6/6/6 DRY/DRY/DRY", "20"));
     }
 
     #[test]

@@ -1,8 +1,10 @@
 //! Messages and rows at the edges: those by hand come with the number and the place the documents give them, and generated
 //! messages follow.
 mod changes;
+mod season;
 
 pub use changes::{row_pairs_by_hand, Pair};
+pub use season::{nights_by_hand, Night};
 
 use crate::generate::{self, Rng};
 
@@ -33,9 +35,14 @@ pub struct Example {
 }
 
 /// What stands between angle brackets in the texts below; no text has such a bracket itself.
-const SHORTHAND: [(&str, &str); 16] = [
+const SHORTHAND: [(&str, &str); 17] = [
     ("<P>", "<P1>\n<L2>\n<L3>\n<L4>\n<L5>\n"),
     ("<P1>", "GG XQAAYNYX"),
+    (
+        "<YEAR>",
+        "03010000 01 <S>\n12312359 02 <S>\n02290000 03 <S>\n01010000 04 <S>\n02282359 05 <S>\n12312350 06 <S>\n\
+         01010010 07 <S>\n",
+    ),
     ("<D>", "<T> 07 "),
     ("<LONG>", "5/5/5 25/NR/NR NR/NR/NR "),
     ("<H>", "<L1>\n<L2>\n<L3>\n<L4>\n<L5>\n"),
@@ -237,8 +244,8 @@ const MESSAGES: &[(&str, u8)] = &[
     ("<L1>\n<L2>\n^SWXQ0007 XQA 01120640\n<L4>\n<L5>\n<R>)\n", 3),
     ("<L1>\n<L2>\n^SWXQ0007 XQAA 01320640\n<L4>\n<L5>\n<R>)\n", 3),
     ("<L1>\n<L2>\nSWXQ0007 XQAA ^01120641\n<L4>\n<L5>\n<R>)\n", 12),
-    ("<L1>\n<L2>\nSWXQ0007 XQAA 12010000\n<L4>\n<L5>\n01310000 01 <S>\n12010000 02 <S>)\n", 0),
-    ("<L1>\n<L2>\nSWXQ0007 XQAA ^01310000\n<L4>\n<L5>\n01310000 01 <S>\n12010000 02 <S>)\n", 12),
+    ("<L1>\n<L2>\nSWXQ0007 XQAA 01310000\n<L4>\n<L5>\n01310000 01 <S>\n12010000 02 <S>)\n", 0),
+    ("<L1>\n<L2>\nSWXQ0007 XQAA ^12010000\n<L4>\n<L5>\n01310000 01 <S>\n12010000 02 <S>)\n", 12),
 ];
 
 /// Rows as the one row of a notice; the number is what the notice gets, and a `^` marks its place.
@@ -551,7 +558,7 @@ const PLACED_ROWS: &[(&str, u8, usize)] = &[
 /// The messages by hand.
 pub fn by_hand() -> Vec<Example> {
     let mut messages = vec![(EXAMPLE.to_string(), 0), (EXAMPLE_WRITTEN.to_string(), 0)];
-    messages.extend(MESSAGES.iter().map(|&(text, number)| (text.to_string(), number)));
+    messages.extend(MESSAGES.iter().chain(season::MESSAGES).map(|&(text, number)| (text.to_string(), number)));
     messages.extend(ROWS.iter().map(|&(row, number)| (format!("<H>{row})\n"), number)));
     messages.extend(AWARENESS.iter().map(|&(line, number)| (format!("<H><R>\n\n^{line})\n"), number)));
     // 20: a space after the last full stop, before plain language.

@@ -5,6 +5,7 @@ mod damage;
 mod desk;
 mod numbers;
 mod records;
+mod rounds;
 mod rows;
 #[cfg(feature = "library")]
 mod structs;
@@ -16,6 +17,8 @@ pub use damage::damaged;
 pub use desk::{any_row_line, desk_input, is_sent_by, opening_line, started, two_runs, TwoRuns};
 pub use numbers::{numbers, observation, Observation};
 pub use records::record;
+#[cfg(feature = "library")]
+pub use rounds::near;
 #[cfg(feature = "library")]
 pub use structs::{damage_board, damage_record};
 pub use typing::{stretched, typing};

@@ -2,6 +2,7 @@
 use crate::library::{self, Answer, Board, Details, Items, Language};
 use crate::reader;
 use crate::row::{Row, Runway};
+use crate::season;
 use crate::structs;
 
 /// The canonical text of a record; none where it is not valid. It is valid if the second reader reads it from its text, and
@@ -33,9 +34,9 @@ pub fn is_board(board: &Board) -> bool {
         && board.latest == latest(board)
 }
 
-/// The time that a board has to store.
-fn latest(board: &Board) -> u32 {
-    board.rows.iter().filter(|row| !is_blank(row)).map(|row| row.time).max().unwrap_or(0)
+/// The time that a board has to store. A blank row has none.
+pub fn latest(board: &Board) -> u32 {
+    season::latest(board.rows.iter().filter(|row| !is_blank(row)).map(|row| row.time)).unwrap_or(0)
 }
 
 pub fn is_blank(row: &library::Row) -> bool {
@@ -77,7 +78,7 @@ fn place(board: &Board, desk: u32, row: &library::Row) -> Result<usize, u8> {
         return Err(22);
     }
     let shown = &board.rows[place];
-    if !is_blank(shown) && row.time <= shown.time {
+    if !is_blank(shown) && !season::is_later(row.time, shown.time) {
         return Err(20);
     }
     Ok(place)
@@ -120,7 +121,7 @@ mod tests {
     }
 
     /// Each alone breaks a rule of a board that keeps them all.
-    const BREACHES: [fn(&mut Board); 21] = [
+    const BREACHES: [fn(&mut Board); 24] = [
         |board| board.aerodrome[3] = b'a',
         |board| board.count = 0,
         |board| board.count = 1,
@@ -135,7 +136,8 @@ mod tests {
         |board| board.owners[2] = 1,
         |board| board.rows.swap(0, 1),
         |board| board.rows[0].width = 1,
-        // The stored time: off by one, none, that of a row not shown any more, that of the earlier row, later than all.
+        // The stored time: off by one, none, that of a row not shown any more, that of the earlier row, later than all, or
+        // the latest by its digits alone.
         |board| board.latest -= 1,
         |board| board.latest += 1,
         |board| board.latest = 0,
@@ -146,6 +148,15 @@ mod tests {
         },
         |board| board.rows[0] = row(b"01120641 07L 6/6/6 DRY/DRY/DRY"),
         |board| board.latest = u32::MAX,
+        |board| {
+            board.rows[0] = row(b"12312350 07L 6/6/6 DRY/DRY/DRY");
+            board.latest = 12_312_350;
+        },
+        |board| {
+            board.rows[0] = row(b"07010000 07L 6/6/6 DRY/DRY/DRY");
+            board.latest = 7_010_000;
+        },
+        |board| board.rows[0] = row(b"06302359 07L 6/6/6 DRY/DRY/DRY"),
     ];
 
     /// Neither reported to nor written; what else is wrong with the call comes behind.
@@ -173,10 +184,17 @@ mod tests {
         assert_eq!(told(&board(), 1, b"01120639 07L 6/6/6 DRY/DRY/DRY"), 1_120_640);
         assert_eq!(told(&board(), 1, b"01120640 07L 6/6/6 DRY/DRY/DRY"), 1_120_640);
         assert_eq!(told(&board(), 1, b"01120641 07L 6/6/6 DRY/DRY/DRY"), 1_120_641);
-        assert_eq!(told(&board(), 2, b"12312359 07R 6/6/6 DRY/DRY/DRY"), 12_312_359);
+        assert_eq!(told(&board(), 2, b"06302359 07R 6/6/6 DRY/DRY/DRY"), 6_302_359);
+        // Of the other runway, earlier and later in the season, whatever the digits say; while none is shown, any.
+        assert_eq!(told(&board(), 1, b"12312359 07L 6/6/6 DRY/DRY/DRY"), 1_120_640);
+        assert_eq!(told(&board(), 1, b"07010000 07L 6/6/6 DRY/DRY/DRY"), 1_120_640);
+        assert_eq!(told(&board(), 1, b"06302359 07L 6/6/6 DRY/DRY/DRY"), 6_302_359);
+        assert_eq!(told(&none, 1, b"07010000 07L 6/6/6 DRY/DRY/DRY"), 7_010_000);
+        assert_eq!(told(&none, 1, b"06302359 07L 6/6/6 DRY/DRY/DRY"), 6_302_359);
         // Refused, by 20, 22, 18 and 23.
         for (desk, text) in [
             (2, &b"01120640 07R 6/6/6 DRY/DRY/DRY"[..]),
+            (2, b"12312359 07R 6/6/6 DRY/DRY/DRY"),
             (1, b"01120641 07R 6/6/6 DRY/DRY/DRY"),
             (1, b"01120641 07 6/6/6 DRY/DRY/DRY"),
             (3, b"01120641 07R 6/6/6 DRY/DRY/DRY"),
@@ -190,6 +208,10 @@ mod tests {
         let told = |desk, text: &[u8]| report(&board(), desk, &row(text)).refusal;
         assert_eq!(told(2, b"01120640 07R 5/5/5 NR/NR/NR NR/NR/NR WET/WET/WET"), 20);
         assert_eq!(told(2, b"01120641 07R 6/6/6 DRY/DRY/DRY"), 0);
+        assert_eq!(told(2, b"12312359 07R 6/6/6 DRY/DRY/DRY"), 20);
+        assert_eq!(told(2, b"07010000 07R 6/6/6 DRY/DRY/DRY"), 20);
+        assert_eq!(told(2, b"02290000 07R 6/6/6 DRY/DRY/DRY"), 0);
+        assert_eq!(told(2, b"06302359 07R 6/6/6 DRY/DRY/DRY"), 0);
         assert_eq!(told(1, b"01120639 07L 6/6/6 DRY/DRY/DRY"), 0);
         assert_eq!(told(1, b"01120641 07 6/6/6 DRY/DRY/DRY"), 18);
     }

@@ -27,6 +27,7 @@ pub mod report;
 pub mod row;
 #[cfg(feature = "library")]
 pub mod run;
+pub mod season;
 pub mod selfcheck;
 #[cfg(feature = "library")]
 mod structs;

@@ -4,6 +4,7 @@ use crate::items::{self, Item};
 use crate::places::runway_place;
 use crate::refused::Refused;
 use crate::row::{read_time, Row};
+use crate::season;
 use crate::text::{digits, exactly, groups, letters, lines, placed_lines, split, Line};
 
 pub const LONGEST_MESSAGE: usize = 4096;
@@ -36,8 +37,9 @@ struct Body {
 }
 
 impl Record {
+    /// The heading's time; 0 where there is no row.
     pub fn latest(&self) -> u32 {
-        self.rows.iter().map(|row| row.time).max().unwrap_or(0)
+        season::latest(self.rows.iter().map(|row| row.time)).unwrap_or(0)
     }
 
     /// The lines of the canonical text, without their LF.
@@ -192,6 +194,12 @@ fn heading(line: &[u8]) -> Option<([u8; 2], u32, [u8; 4], u32)> {
 /// The time that a message's heading bears, whatever its rows say; none where line 3 is missing or wrong.
 pub fn heading_time(message: &[u8]) -> Option<u32> {
     lines(message).get(2).and_then(|line| heading(line)).map(|(.., time)| time)
+}
+
+/// The times of a message's rows, up to the first line that is none.
+pub fn row_times(message: &[u8]) -> Vec<u32> {
+    let rows = lines(message).into_iter().skip(5).map(|line| Row::cut(closing(line).0));
+    rows.map_while(|row| row.map(|row| row.time)).collect()
 }
 
 /// Line 4: the serial again.

@@ -101,6 +101,8 @@ pub fn run(count: usize, seed: u64) -> bool {
     run.report.print_counts_of("rows by hand", &OF_ROWS);
     edges::row_pairs_by_hand().iter().for_each(|pair| run.row_pair_by_hand(pair));
     run.report.print_counts("pairs of rows by hand");
+    edges::nights_by_hand().iter().for_each(|night| run.night_by_hand(night));
+    run.report.print_counts("reports by hand");
     (0..count).for_each(|_| run.message());
     run.report.print_counts_of("messages", &OF_MESSAGES);
     let equal = (0..tenth).filter(|_| run.pair()).count();

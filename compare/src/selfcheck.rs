@@ -1,6 +1,7 @@
 //! The second reader against itself, and against the models in Python of rows and of the desk.
 mod changes;
 mod places;
+mod season;
 
 use std::io;
 
@@ -10,7 +11,7 @@ use crate::edges;
 use crate::generate::{self, Rng, Sample};
 use crate::isolation;
 use crate::models;
-use crate::reader::{heading_time, read, same, write, Record, LONGEST_MESSAGE};
+use crate::reader::{heading_time, read, row_times, same, write, Record, LONGEST_MESSAGE};
 use crate::refused::Refused;
 use crate::report::{Report, OF_MESSAGES, OF_ROWS};
 use crate::row::{read_time, Row, Runway, Third};
@@ -35,6 +36,12 @@ fn message(rng: &mut Rng, report: &mut Report) {
             let again = read(&text);
             if text.len() > LONGEST_MESSAGE || again.as_ref() != Ok(&record) || !same(&message, &text) {
                 report.differ("canonical text", &text, &format!("{record:?}"), &format!("{again:?}"));
+            }
+            for text in [message, text] {
+                let (told, expected) = (heading_time(&text), season::observed_last(&row_times(&text)));
+                if told != expected {
+                    report.differ("heading time", &text, &format!("{expected:?}"), &format!("{told:?}"));
+                }
             }
         }
         Err(_) if same(&message, &message) => {
@@ -127,15 +134,15 @@ fn shift(rng: &mut Rng, report: &mut Report) {
     }
 }
 
-/// The stored time rises with a later report that is taken, and nothing else changes it: so it never falls.
+/// The stored time is the latest of all reports that were taken, be they shown no more: so it never falls.
 fn stored(shift: &Shift, told: &[u8], report: &mut Report) {
-    let mut latest = 0;
-    let mut expected = vec![latest];
+    let mut taken: Vec<u32> = Vec::new();
+    let mut expected = vec![0];
     for (sent, &answer) in shift.reports.iter().zip(&lines(told)[1..]) {
         if answer == b"0" {
-            latest = sent.line.get(..8).and_then(read_time).map_or(latest, |time| latest.max(time));
+            taken.extend(sent.line.get(..8).and_then(read_time));
         }
-        expected.push(latest);
+        expected.push(season::observed_last(&taken).unwrap_or(0));
     }
     let times = stored_times(shift);
     if times.as_ref() != Some(&expected) {
@@ -230,7 +237,9 @@ pub fn run(count: usize, seed: u64) -> bool {
     report.print_counts("observations");
     (0..count).for_each(|_| numbers(&mut rng, &mut report));
     report.print_counts("rows as numbers");
-    let asked = row_model(&mut rng, count / 4, &mut report)
+    let asked = season::by_hand(&mut report)
+        .map(|()| report.print_counts("reports by hand"))
+        .and_then(|()| row_model(&mut rng, count / 4, &mut report))
         .and_then(|()| desk_model(&mut rng, (count / 200).clamp(1, 300), &mut report));
     if let Err(error) = &asked {
         println!("the models in Python were not asked: {error}");

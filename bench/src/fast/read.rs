@@ -1,5 +1,7 @@
 //! Reading. Every byte is looked at where it stands, left to right, and each misfit of a line gives the line's number.
-use super::valid::{is_language, is_name, is_real_time, valid_third, Order, HIGHEST_REDUCED, HIGHEST_REPORTED};
+use super::valid::{
+    in_season, is_language, is_name, is_real_time, valid_third, Order, HIGHEST_REDUCED, HIGHEST_REPORTED,
+};
 use super::*;
 
 /// Fills the record, but nothing past its counts.
@@ -21,7 +23,7 @@ pub fn notice(message: &[u8], record: &mut Record) -> Result<(), u8> {
         Err(10)
     } else if aerodrome != title.aerodrome {
         Err(11)
-    } else if time != latest {
+    } else if in_season(time) != latest {
         Err(12)
     } else {
         Ok(())
@@ -227,7 +229,7 @@ impl Reader<'_> {
 
 /// What stands below line 5.
 impl Reader<'_> {
-    /// Up to the line that closes the notice; gives the latest time.
+    /// Up to the line that closes the notice; gives the latest time's place in the season.
     fn body(&mut self, record: &mut Record) -> Result<u32, u8> {
         record.items.count = 0;
         record.language.length = 0;
@@ -245,7 +247,8 @@ impl Reader<'_> {
         Ok(latest)
     }
 
-    /// The rows up to the empty line behind them, or to the one that closes; whether it did, and the latest time.
+    /// The rows up to the empty line behind them, or to the one that closes; whether it did, and the latest time's place in
+    /// the season.
     fn rows(&mut self, rows: &mut Rows) -> Result<(bool, u32), u8> {
         let mut seen = 0u128;
         let mut latest = 0;
@@ -264,7 +267,7 @@ impl Reader<'_> {
                 return Err(7);
             }
             seen |= runway;
-            latest = latest.max(row.time);
+            latest = latest.max(in_season(row.time));
             rows.count += 1;
             if closed {
                 return Ok((true, latest));

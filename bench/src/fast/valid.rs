@@ -24,6 +24,12 @@ pub fn is_real_time(month: u8, day: u8, hour: u8, minute: u8) -> bool {
     (1..=days).contains(&day) && hour < 24 && minute < 60
 }
 
+/// A time's place in its season: July comes first, and what wraps round below it comes behind December. Place 0 is before all.
+#[inline(always)]
+pub fn in_season(time: u32) -> u32 {
+    time.wrapping_sub(7_000_000)
+}
+
 #[inline(always)]
 pub fn is_name(byte: u8) -> bool {
     byte.is_ascii_uppercase() | byte.is_ascii_digit()

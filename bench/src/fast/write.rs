@@ -1,4 +1,5 @@
 //! Writing. Words are put as arrays, so that each is a few stores and no call.
+use super::valid::in_season;
 use super::*;
 
 /// Puts the text of a valid record and gives its length.
@@ -99,7 +100,7 @@ impl Writer<'_> {
         self.put(b" ");
         self.put(&aerodrome);
         self.put(b" ");
-        self.time(record.rows().iter().map(|row| row.time).max().unwrap_or(0));
+        self.time(record.rows().iter().map(|row| row.time).max_by_key(|&time| in_season(time)).unwrap_or(0));
         self.put(b"\n(SNOWTAM ");
         self.four_digits(serial.into());
         self.put(b"\n");

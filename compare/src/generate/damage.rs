@@ -40,7 +40,7 @@ enum Damage {
     Cut,
 }
 
-const DAMAGES: [Damage; 34] = [
+const DAMAGES: [Damage; 35] = [
     Damage::AnyBytes,
     Damage::HeadBound,
     Damage::RowBound,
@@ -63,6 +63,7 @@ const DAMAGES: [Damage; 34] = [
     Damage::RunwayTwice,
     Damage::Serial,
     Damage::Aerodrome,
+    Damage::Time,
     Damage::Time,
     Damage::Time,
     Damage::Close,
@@ -129,6 +130,11 @@ fn damaged_record(rng: &mut Rng, damage: Damage) -> Record {
             record = record_of(rng, rows, 0, with_plain);
             let (place, last) = (rng.below(rows - 1), rows - 1);
             record.rows[last].runway = record.rows[place].runway;
+        }
+        // Of one row the time is the latest in any order.
+        Damage::Time if rng.chance(70) => {
+            let (rows, with_plain) = (row_count(rng).max(2), rng.chance(50));
+            record = record_of(rng, rows, 0, with_plain);
         }
         Damage::Plain => record.plain = bad_plain(rng),
         _ => {}
@@ -266,7 +272,14 @@ fn damage_lines(rng: &mut Rng, damage: Damage, record: &Record, draft: &mut Draf
             *byte = if *byte == b'Z' { b'Y' } else { b'Z' };
         }
         Damage::Time => {
-            let other = [time(rng), record.rows[0].time, record.latest() ^ 1][rng.below(3)];
+            // Mostly the one that would be the latest, were times compared by their digits.
+            let by_digits = record.rows.iter().map(|row| row.time).max().unwrap_or(0);
+            let other = match rng.below(7) {
+                0 => time(rng),
+                1 => record.rows[0].time,
+                2 => record.latest() ^ 1,
+                _ => by_digits,
+            };
             with_other_end(&mut lines[2], &format!("{other:08}"));
         }
         Damage::Close => with_odd_close(rng, lines),
@@ -310,14 +323,14 @@ fn with_other_end(line: &mut Vec<u8>, end: &str) {
     line.extend_from_slice(end.as_bytes());
 }
 
-const BOUND_TIMES: [u32; 14] = [
-    2_290_000, 2_300_000, 4_300_000, 4_310_000, 6_310_000, 9_310_000, 11_310_000, 12_312_359, 12_312_400, 1_010_060,
-    10_000, 1_000_000, 13_010_000, 1_320_000,
+const BOUND_TIMES: [u32; 16] = [
+    2_290_000, 2_300_000, 4_300_000, 4_310_000, 6_302_359, 6_310_000, 7_010_000, 9_310_000, 11_310_000, 12_312_359,
+    12_312_400, 1_010_060, 10_000, 1_000_000, 13_010_000, 1_320_000,
 ];
 /// Groups right at and right behind the bounds of document 01.
-const TIMES: [&str; 16] = [
-    "02290000", "02300000", "04300000", "04310000", "12312359", "12312400", "01010060", "00010000", "01000000",
-    "13010000", "01320000", "1120640", "001120640", "0112064A", "010000", "320000",
+const TIMES: [&str; 19] = [
+    "02290000", "02300000", "04300000", "04310000", "06302359", "07010000", "12312359", "12312400", "01010000",
+    "01010060", "00010000", "01000000", "13010000", "01320000", "1120640", "001120640", "0112064A", "010000", "320000",
 ];
 const NUMBERS: [&str; 18] = [
     "00", "01", "02", "03", "04", "18", "19", "36", "37", "99", "099", "100", "999", "1000", "9999", "10000", "0100",

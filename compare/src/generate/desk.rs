@@ -1,6 +1,7 @@
 //! Inputs of the desk program.
 use super::damage::{with_byte_damage, with_neighbour, with_row_bound};
 use super::records::{row, runway, word};
+use super::rounds::round;
 use super::rows::damaged_row;
 use super::typing::{loosened, Pace};
 use super::Rng;
@@ -82,12 +83,11 @@ fn with_wrong_owner(rng: &mut Rng, line: &mut Vec<u8>) {
     line.splice(place..place + 2, other.iter().copied());
 }
 
-/// A line that holds a row, or something that was one.
-fn row_line(rng: &mut Rng, runway: Runway) -> Vec<u8> {
+/// A line that holds a row, or something that was one; mostly the row is of one of the times.
+fn row_line(rng: &mut Rng, runway: Runway, times: &[u32]) -> Vec<u8> {
     let mut row = row(rng, runway);
-    // Few times, so that equal and earlier ones are common.
     if rng.chance(80) {
-        row.time = 1_120_600 + rng.below(8) as u32;
+        row.time = rng.pick(times);
     }
     if rng.chance(10) {
         with_row_bound(rng, &mut row);
@@ -111,8 +111,8 @@ fn row_line(rng: &mut Rng, runway: Runway) -> Vec<u8> {
 }
 
 /// As `row_line`, but at times at the longest length that the desk looks at or over it, counted with its start or without.
-fn long_row_line(rng: &mut Rng, runway: Runway) -> Vec<u8> {
-    let mut line = row_line(rng, runway);
+fn long_row_line(rng: &mut Rng, runway: Runway, times: &[u32]) -> Vec<u8> {
+    let mut line = row_line(rng, runway, times);
     if rng.chance(5) {
         let length: usize = rng.pick(&[4093, 4094, 4094, 4095, 4095, 4096, 4097, 4098, 9000]);
         if let Some(place) = line.iter().position(|&byte| byte == b' ') {
@@ -130,20 +130,23 @@ pub fn any_row_line(rng: &mut Rng) -> Vec<u8> {
         let row = row(rng, runway);
         return damaged_row(rng, &row).text;
     }
-    long_row_line(rng, runway)
+    let times = round(rng);
+    long_row_line(rng, runway, &times)
 }
 
 /// What is reported to a board; `no_desks` are the numbers of senders that are none. Now and then a line is sent again, by
-/// the other desk as often as by the same.
+/// the other desk as often as by the same. Most rows are of one round, so that equal and earlier
+/// ones are common.
 pub fn reports(rng: &mut Rng, list: &[Owned], no_desks: &[u32]) -> Vec<Report> {
     let count = rng.pick(&[0, 1, 2, 5, 10, 20, 40]);
+    let times = round(rng);
     let mut reports: Vec<Report> = Vec::new();
     for _ in 0..count {
         let next = if !reports.is_empty() && rng.chance(15) {
             let line = reports[rng.below(reports.len())].line.clone();
             Report { desk: rng.pick(&[1, 2]), line }
         } else {
-            report(rng, list, no_desks)
+            report(rng, list, no_desks, &times)
         };
         reports.push(next);
     }
@@ -151,16 +154,16 @@ pub fn reports(rng: &mut Rng, list: &[Owned], no_desks: &[u32]) -> Vec<Report> {
 }
 
 /// Mostly of a runway of the board, and mostly sent by its owner.
-fn report(rng: &mut Rng, list: &[Owned], no_desks: &[u32]) -> Report {
+fn report(rng: &mut Rng, list: &[Owned], no_desks: &[u32], times: &[u32]) -> Report {
     let Owned { runway, owner } =
-        if rng.chance(10) { Owned { runway: runway(rng, REPORTED), owner: rng.pick(&[1, 2]) } } else { rng.pick(list) };
+        if rng.chance(12) { Owned { runway: runway(rng, REPORTED), owner: rng.pick(&[1, 2]) } } else { rng.pick(list) };
     let owner = u32::from(owner);
     let desk = match rng.below(100) {
         0..=69 => owner,
         70..=84 => 3 - owner,
         _ => rng.pick(no_desks),
     };
-    Report { desk, line: long_row_line(rng, runway) }
+    Report { desk, line: long_row_line(rng, runway, times) }
 }
 
 /// The lines of the desk's input for a board, at times without the start that a line has to have.

@@ -1,4 +1,5 @@
 //! Valid records in every shape.
+use super::rounds::{round, seam};
 use super::Rng;
 use crate::items::{Banks, Item, Name, MOST_ITEMS, MOST_PLAIN, MOST_TAXIWAYS, REDUCED};
 use crate::reader::{Record, MOST_ADDRESSES, MOST_ROWS};
@@ -29,8 +30,10 @@ pub fn runway(rng: &mut Rng, greatest: u8) -> Runway {
 }
 
 pub fn time(rng: &mut Rng) -> u32 {
-    if rng.chance(25) {
-        return rng.pick(&REAL_TIMES);
+    match rng.below(100) {
+        0..=14 => return rng.pick(&REAL_TIMES),
+        15..=29 => return seam(rng),
+        _ => {}
     }
     let month = rng.between(1, 12);
     let days = if month == 2 { 29 } else { 30 + [1, 3, 5, 7, 8, 10, 12].contains(&month) as usize };
@@ -154,11 +157,11 @@ pub fn record_of(rng: &mut Rng, rows: usize, item_count: usize, with_plain: bool
         }
     }
     let mut rows: Vec<Row> = runways.into_iter().map(|runway| row(rng, runway)).collect();
-    // Rows of one round of cars: close to each other, some at the same minute.
-    if rng.chance(60) {
-        let day = rows[0].time / 10_000 * 10_000;
+    // Rows of one round of cars: mostly close to each other, some at the same minute.
+    if rng.chance(70) {
+        let times = round(rng);
         for row in &mut rows {
-            row.time = day + 600 + rng.below(10) as u32;
+            row.time = rng.pick(&times);
         }
     }
     Record {

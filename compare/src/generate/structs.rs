@@ -1,5 +1,7 @@
 //! Records and boards as structs that one thing was done to. What comes of it may be valid still.
+use super::rounds::near;
 use super::Rng;
+use crate::judge;
 use crate::library::{Addresses, Board, Filing, Item, Items, Language, Record, Row, Rows, Title};
 
 const BYTES: &[u8] =
@@ -65,18 +67,20 @@ pub fn damage_board(rng: &mut Rng, board: &mut Board) {
         _ => damage_row(rng, &mut board.rows[one]),
     }
     if rng.chance(50) {
-        board.latest = board.rows.iter().map(|row| row.time).max().unwrap_or(0);
+        board.latest = judge::latest(board);
     }
 }
 
-/// A time next to the stored one or otherwise near it, none, that of a row, or one later than all.
+/// A time next to the stored one or otherwise near it, none, that of a row, the latest by its digits, or one at an end of the
+/// season or of the numbers.
 fn damage_latest(rng: &mut Rng, board: &mut Board) {
-    board.latest = match rng.below(5) {
+    board.latest = match rng.below(6) {
         0 => board.latest.wrapping_add(rng.pick(&[1, u32::MAX])),
         1 => number(rng, board.latest),
         2 => 0,
         3 => board.rows[place(rng, board.count.into(), 8)].time,
-        _ => rng.pick(&[12_312_359, 99_999_999, u32::MAX]),
+        4 => board.rows.iter().map(|row| row.time).max().unwrap_or(0),
+        _ => rng.pick(&[6_302_359, 7_010_000, 12_312_359, 99_999_999, u32::MAX]),
     };
 }
 
@@ -156,7 +160,7 @@ fn damage_rows(rng: &mut Rng, rows: &mut Rows) {
 fn damage_row(rng: &mut Rng, row: &mut Row) {
     let third = &mut row.thirds[rng.below(3)];
     match rng.below(8) {
-        0 => row.time = number(rng, row.time),
+        0 => row.time = if rng.chance(50) { number(rng, row.time) } else { near(rng, row.time) },
         1 => byte(rng, &mut row.number),
         2 => byte(rng, &mut row.side),
         3 => byte(rng, &mut row.width),
@@ -204,7 +208,7 @@ mod tests {
     use super::*;
     use crate::generate::record;
     use crate::library::Runway;
-    use crate::{judge, reader, structs};
+    use crate::{reader, structs};
 
     const ALL: usize = 2000;
 
@@ -244,9 +248,9 @@ mod tests {
             board.owners[place] = rng.pick(&[1, 2]);
             if rng.chance(shown) {
                 board.rows[place] = *row;
-                board.latest = board.latest.max(row.time);
             }
         }
+        board.latest = judge::latest(&board);
         board
     }
 
@@ -267,7 +271,7 @@ mod tests {
     #[test]
     fn each_wrong_stored_time_is_met_alone() {
         let mut rng = Rng::new(1);
-        let mut met = [0; 6];
+        let mut met = [0; 7];
         for _ in 0..ALL {
             let good = board(&mut rng);
             let mut bad = good;
@@ -285,6 +289,7 @@ mod tests {
                 !shown && crate::row::is_real_time(latest),
                 latest != 0 && good.rows.iter().any(|row| row.time == latest),
                 latest > 12_312_359,
+                shown && good.rows.iter().map(|row| row.time).max() == Some(latest),
             ];
             met.iter_mut().zip(ways).for_each(|(count, way)| *count += usize::from(way));
         }

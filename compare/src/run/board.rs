@@ -1,6 +1,7 @@
 //! The desk's text, and boards that are kept as structs.
 use super::{Run, Shown};
 use crate::desk::{self, Report, Shift};
+use crate::edges::Night;
 use crate::generate;
 use crate::judge;
 use crate::library::{self, Answer, Board, Record, Row, RunwayList};
@@ -19,6 +20,17 @@ impl Run {
     pub fn desk_input(&mut self) {
         let input = generate::desk_input(&mut self.rng);
         self.prints("desk", &input, &desk::desk(&input), |out| library::desk(&input, out));
+    }
+
+    /// Reports by hand are answered, and the time is stored, as it stands there, whatever the second reader tells of them.
+    pub fn night_by_hand(&mut self, night: &Night) {
+        let (input, answers) = (night.input(), night.answers());
+        answers.iter().for_each(|&answer| self.report.count(answer));
+        self.prints("a desk's reports by hand", &input, &night.printed(), |out| library::desk(&input, out));
+        let live = Shift::read(&input).and_then(|shift| self.live(&shift));
+        let told = live.map(|live| (live.answers, live.board.latest));
+        let expected = night.stored().last().map(|&latest| (answers, latest));
+        self.agree("a live board's reports by hand", Shown(&input), expected, told);
     }
 
     /// The notice of a desk's board, from texts at once and by way of the structs.
@@ -133,7 +145,7 @@ impl Run {
         }
         if self.rng.chance(50) {
             let time = self.rng.pick(&[board.rows[place].time, board.latest]);
-            row.time = time.wrapping_add(self.rng.pick(&[0, 1, u32::MAX]));
+            row.time = generate::near(&mut self.rng, time);
         }
         let desk = if self.rng.chance(50) { board.owners[place].into() } else { self.rng.pick(&SENDERS) };
         (desk, row)

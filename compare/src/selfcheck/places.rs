@@ -2,10 +2,11 @@
 use crate::desk::desk;
 use crate::edges::{self, Example};
 use crate::places::fault;
-use crate::reader::{read, LONGEST_MESSAGE};
+use crate::reader::{read, row_times, LONGEST_MESSAGE};
 use crate::refused::Refused;
 use crate::report::Report;
 use crate::row::{read_time, Row};
+use crate::selfcheck::season::observed_last;
 use crate::text::{digits, letters, lines};
 
 /// Every message and row at the edges is answered as it stands there.
@@ -71,7 +72,10 @@ fn fits(message: &[u8], refused: Refused) -> bool {
         7 => message[..place].ends_with(b" ") && decides(message, refused),
         10 => line.starts_with(b"(SNOWTAM ") && behind.get(..4).and_then(|group| digits(group, 4)).is_some(),
         11 => first && behind.get(..4).and_then(letters::<4>).is_some(),
-        12 => line.starts_with(b"SW") && behind.get(..8).and_then(read_time).is_some(),
+        12 => {
+            let time = behind.get(..8).and_then(read_time);
+            line.starts_with(b"SW") && time.is_some() && time != observed_last(&row_times(message))
+        }
         _ => false,
     }
 }
