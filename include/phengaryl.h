@@ -1,6 +1,6 @@
 /*
  * Phengaryl: runway notices (SNOWTAM) read, written, compared, assessed and kept on a board that two desks share, exactly as document 01 and
- * requests 1 to 5 of document 02 say.
+ * requests 1 to 6 of document 02 say.
  *
  * Every function here is proved to keep the promise that its comment gives in plain words; crates/phengaryl/src/lib.rt has it in full.
  * The functions keep nothing between calls, take no memory from the heap, print nothing and always return, so any thread may call them.
@@ -25,7 +25,7 @@ extern "C" {
 #endif
 
 /* The version of this interface. The first number grows with every change that a program has to be compiled anew for. */
-#define PHENGARYL_VERSION "4.1.0"
+#define PHENGARYL_VERSION "4.2.0"
 
 /* A longer message is refused (1), and the canonical text of an accepted one is never longer. */
 #define PHENGARYL_LONGEST_TEXT 4096
@@ -56,7 +56,7 @@ enum phengaryl_refusal {
     PHENGARYL_WRONG_LANGUAGE = 9,        /* the plain language is wrong */
     PHENGARYL_SERIALS_DIFFER = 10,       /* the two serials differ */
     PHENGARYL_AERODROMES_DIFFER = 11,    /* the two aerodromes differ */
-    PHENGARYL_NOT_LATEST_TIME = 12,      /* the heading's time is not that of the latest row */
+    PHENGARYL_NOT_LATEST_TIME = 12,      /* the heading's time is not that of the latest row, in season order */
     /* Writing */
     PHENGARYL_INVALID_RECORD = 13,       /* the record to be written is not valid */
     PHENGARYL_BUFFER_TOO_SHORT = 14,     /* the buffer is shorter than the text */
@@ -67,7 +67,7 @@ enum phengaryl_refusal {
     PHENGARYL_WRONG_BOARD = 17,          /* the aerodrome, the list of runways or an owner is wrong, or a board handed in breaks its rules */
     PHENGARYL_NOT_ON_BOARD = 18,         /* the runway is not on the board */
     PHENGARYL_INVALID_ROW = 19,          /* the row is not valid */
-    PHENGARYL_NOT_LATER = 20,            /* the report is not later than the row shown */
+    PHENGARYL_NOT_LATER = 20,            /* the report is not later in the season, 1 July to 30 June, than the row shown */
     PHENGARYL_NO_REPORT = 21,            /* the board holds no report */
     PHENGARYL_OTHERS_RUNWAY = 22,        /* the runway belongs to the other desk */
     PHENGARYL_NO_DESK = 23,              /* there is no such desk */
@@ -263,7 +263,7 @@ typedef struct phengaryl_board {
     uint8_t count;                       /* 1 to 8 runways, in rising order */
     phengaryl_runway runways[8];
     uint8_t owners[8];                   /* the desk that owns each, 1 or 2 */
-    uint32_t latest;                     /* the time of the row observed last, MMDDhhmm as a number; 0 where none is shown */
+    uint32_t latest;                     /* the time of the row observed last in the season, MMDDhhmm as a number; 0 where none is shown */
     phengaryl_row rows[8];               /* the row shown for each */
 } phengaryl_board;
 

@@ -134,6 +134,9 @@ elsewhere = dryRow 1120610 7 0
 pub record Reports : Type 0 where
   -- taken; the same again; an earlier one; a later one
   times : answers board (1 sends left ∷ 1 sends left ∷ 1 sends dryRow 1120609 7 1 ∷ 1 sends dryRow 1120611 7 1 ∷ []) ≡ 0 ∷ 20 ∷ 20 ∷ 0 ∷ []
+  -- the station's own case: 01010010 behind 12312350 is taken, and back it is not; June is last, and July would be first
+  seasons : answers board (1 sends dryRow 12312350 7 1 ∷ 1 sends dryRow 1010010 7 1 ∷ 1 sends dryRow 12312350 7 1 ∷ 1 sends dryRow 6302359 7 1
+      ∷ 1 sends dryRow 7010000 7 1 ∷ []) ≡ 0 ∷ 0 ∷ 20 ∷ 0 ∷ 20 ∷ []
   -- a different row of equal time
   equal : answers board (1 sends left ∷ 1 sends record { time = 1120610; number = 7; side = 1; thirds = left .thirds; width = 30 } ∷ []) ≡ 0 ∷ 20 ∷ []
   -- another runway has its own times
@@ -169,7 +172,11 @@ pub record Reports : Type 0 where
   times-stored : timesOf board (1 sends left ∷ 1 sends dryRow 1120641 7 1 ∷ 2 sends right ∷ 1 sends dryRow 1120641 7 1 ∷ 1 sends right
       ∷ 2 sends dryRow 1120642 7 3 ∷ [])
       ≡ 0 ∷ 1120610 ∷ 1120641 ∷ 1120641 ∷ 1120641 ∷ 1120641 ∷ 1120642 ∷ []
-  newer : newest 0 1120610 ∷ newest 1 0 ∷ newest 1120610 1120609 ∷ newest 1120610 1120611 ∷ [] ≡ 1120610 ∷ 1 ∷ 1120610 ∷ 1120611 ∷ []
+  seasons-stored : timesOf board (1 sends dryRow 12312350 7 1 ∷ 2 sends dryRow 1010010 7 3 ∷ 1 sends dryRow 12312359 7 1 ∷ [])
+      ≡ 0 ∷ 12312350 ∷ 1010010 ∷ 1010010 ∷ []
+  season-rules : map (λ t. validBoard (storing t (dryRow 12312350 7 1 ∷ dryRow 1010010 7 3 ∷ []))) (1010010 ∷ 12312350 ∷ []) ≡ true ∷ false ∷ []
+  -- 0 is the mark for none and no time: the first report's is stored, also where July would come before it
+  newer : newest 0 7010000 ∷ newest 0 1120610 ∷ newest 1 0 ∷ newest 1120610 1120609 ∷ newest 1120610 1120611 ∷ [] ≡ 7010000 ∷ 1120610 ∷ 1 ∷ 1120610 ∷ 1120611 ∷ []
   -- "A board handed in with a wrong stored time is refused by 17": by one too early or late, none, another row's, one without a row
   time-rules : map (λ t. validBoard (storing t (left ∷ right ∷ []))) (1120640 ∷ 1120639 ∷ 1120641 ∷ 0 ∷ 1120610 ∷ [])
       ≡ true ∷ false ∷ false ∷ false ∷ false ∷ []
@@ -188,6 +195,7 @@ unfolding _and_ isShortMonth daysOf realDay realClock realTime later validRunway
     report reports from answersTo
 reporting = record {
   times = refl;
+  seasons = refl;
   equal = refl;
   apart = refl;
   alone = refl;
@@ -209,6 +217,8 @@ reporting = record {
   zeros = refl;
   owner-rules = refl;
   times-stored = refl;
+  seasons-stored = refl;
+  season-rules = refl;
   newer = refl;
   time-rules = refl;
   no-time = refl;

@@ -39,13 +39,16 @@ pub record Runways : Type 0 where
   same : map (sameRunway (on 7 1)) (on 7 1 ∷ on 7 2 ∷ on 7 0 ∷ on 8 1 ∷ on 6 1 ∷ []) ≡ true ∷ false ∷ false ∷ false ∷ false ∷ []
   among : map (isAmong (on 7 1)) ([] ∷ (on 7 2 ∷ on 7 1 ∷ []) ∷ (on 7 2 ∷ on 8 1 ∷ []) ∷ []) ≡ false ∷ true ∷ false ∷ []
   new : map (newRunways []) ([] ∷ (on 7 1 ∷ on 7 2 ∷ on 8 1 ∷ []) ∷ (on 7 1 ∷ on 7 2 ∷ on 7 1 ∷ []) ∷ []) ≡ true ∷ true ∷ false ∷ []
-  -- "The heading's time is the latest row time", and times are "compared as plain eight-digit numbers"
-  times : map latest ([] ∷ (at 1120610 ∷ []) ∷ (at 1120610 ∷ at 1120640 ∷ at 1120625 ∷ []) ∷ (at 1010005 ∷ at 12312355 ∷ []) ∷ [])
-      ≡ 0 ∷ 1120610 ∷ 1120640 ∷ 12312355 ∷ []
+  -- "The heading's time is the latest row time"
+  times : map latest ([] ∷ (at 1120610 ∷ []) ∷ (at 1120610 ∷ at 1120640 ∷ at 1120625 ∷ []) ∷ []) ≡ 0 ∷ 1120610 ∷ 1120640 ∷ []
+  -- in season order: over New Year, in either order of the rows; of 1 July and 30 June; about 29 February
+  seasons : map latest ((at 12312350 ∷ at 1010010 ∷ []) ∷ (at 1010010 ∷ at 12312350 ∷ []) ∷ (at 6302359 ∷ at 7010000 ∷ []) ∷ (at 7010000 ∷ at 6302359 ∷ [])
+      ∷ (at 2282359 ∷ at 2290000 ∷ []) ∷ (at 3010000 ∷ at 2292359 ∷ []) ∷ [])
+      ≡ 1010010 ∷ 1010010 ∷ 6302359 ∷ 6302359 ∷ 2290000 ∷ 3010000 ∷ []
 
 pub runways : Runways
 unfolding _and_ sameRunway isAmong newRunways latest Rows.latestOf Rows.latestFrom later
-runways = record { same = refl; among = refl; new = refl; times = refl }
+runways = record { same = refl; among = refl; new = refl; times = refl; seasons = refl }
 
 -- a closed line, and the row that it is
 abbrev line : List ℕ

@@ -1,6 +1,6 @@
 -- The three demands, clause by clause and in their order, as the requests of document 02 that have landed read them; and what those requests demand. What a
 -- theorem assumes is what functions promise, as their `ensures` say it; what it concludes is the clause that is quoted above it, behind which stands the
--- function.
+-- function. Later, latest and last are said in season order throughout, from 1 July to 30 June (request 6): `later` of runway Time.
 use Prim.Native.Nat.{ℕ, _<_, _≤_, _+_, _*_}
 use mathlib.Core.Path.{_≡_, refl, sym, subst, _∙_, ap}
 use mathlib.Core.List.{List, [], _∷_, _++_, List·Permᴰ}
@@ -76,6 +76,8 @@ use Rattle.desktext.specs.Line.{readOpening, listOf, openingRead, openingLine, 
 use Rattle.desktext.specs.Desk.{printed, shownRows, deskText, reportLines}
 use Rattle.desktext.specs.Laws.Line.{Opens}
 use Rattle.desktext.specs.Laws.Desk.{line-opens, no-opening, ReportsTold, lines-tell, lines-report}
+use Rattle.desktext.specs.Tables as DeskTables
+use Rattle.desktext.specs.Tables.{nightShift, nightShown}
 use Rattle.desktext.specs.Theorems as Desk
 use Rattle.desktext.specs.Theorems.{answerLines}
 
@@ -559,13 +561,15 @@ pub lines-are-reports : {b c : Board} {ls : List (List ℕ)} → Calls reportLin
     → ((xs : List Sent) × ReportsTold ls xs) × ((xs : List Sent) → ReportsTold ls xs → c ≡ reports b xs)
 lines-are-reports {b} {c} {ls} k = (lines-tell ls, λ xs t. are-lines k ∙ lines-report b t)
 
--- and at the end the desk prints the rows that this board shows: `desk`, in a buffer of three bytes for each byte of the input and 1,186 more
+-- what the desk prints: `desk`, in a buffer of three bytes for each byte of the input and 1,186 more
+desk-tells : (m : List ℕ) {before after : List ℕ} {n : ℕ} → 3 * length m + 1186 ≤ length before → Put 0 (deskText m) before after n → take n after ≡ deskText m
+desk-tells m {before} room p = let (n, holds) = Desk.desk-whole m room p in rw (n, holds) (take-front (deskText m) (drop (length (deskText m)) before))
+
+-- and at the end it prints the rows that this board shows
 pub desk-prints : (m l : List ℕ) (ls : List (List ℕ)) (b : Board) (xs : List Sent) → lines m ≡ l ∷ ls → Opens l b → ReportsTold ls xs
     → {before after : List ℕ} {n : ℕ} → 3 * length m + 1186 ≤ length before → Put 0 (deskText m) before after n
     → take n after ≡ printed (bytes "OPEN") ++ (answerLines b ls ++ shownRows places (reports b xs))
-desk-prints m l ls b xs e o t {before} room p =
-    let (n, holds) = Desk.desk-whole m room p in
-    rw (n, holds) (take-front (deskText m) (drop (length (deskText m)) before) ∙ Desk.desk-prints m l ls b xs e (line-opens l b .1 o) t)
+desk-prints m l ls b xs e o t room p = desk-tells m room p ∙ Desk.desk-prints m l ls b xs e (line-opens l b .1 o) t
 
 -- ---- Request 5: when must we send a new notice? `compare`
 
@@ -581,3 +585,10 @@ notice-due old new a e = rw e (Changes.due-exactly old new)
 -- "The answer for a row is the same with old and new exchanged"
 pub same-exchanged : (old new : Row) (a b : Change) → a ≡ change old new → b ≡ change new old → a ≡ b
 same-exchanged old new a b e f = e ∙ (Changes.exchanged old new ∙ sym f)
+
+-- ---- Request 6: New Year's night
+
+-- "A station on the night shift had 01010010 refused as older than 12312350": it is taken and shown, and 12312350 is refused behind it (20): `desk`
+pub new-years-night : {before after : List ℕ} {n : ℕ} → 3 * length nightShift + 1186 ≤ length before → Put 0 (deskText nightShift) before after n
+    → take n after ≡ nightShown
+new-years-night room p = desk-tells nightShift room p ∙ DeskTables.new-years-night

@@ -45,7 +45,16 @@ fed ps = piecesText startState ps
 abbrev spaced : ℕ → List (List ℕ)
 spaced n = text ("XQAA 07L/1" ∷ []) ∷ (bytes "1 01120610" ++ replicate n 32) ∷ (bytes "07L 6/6/6 DRY/DRY/DRY" ++ (13 ∷ 10 ∷ 10 ∷ [])) ∷ []
 
+-- a night shift's input, and what the desk prints for it
+abbrev pub nightShift : List ℕ
+nightShift = text ("XQAA 07L/1" ∷ "1 12312350 07L 6/6/6 DRY/DRY/DRY" ∷ "1 01010010 07L 5/5/5 100/75/50 NR/NR/NR FROST/FROST/FROST"
+    ∷ "1 12312350 07L 6/6/6 DRY/DRY/DRY" ∷ [])
+
+abbrev pub nightShown : List ℕ
+nightShown = text ("OPEN" ∷ "0" ∷ "0" ∷ "20" ∷ "01010010 07L 5/5/5 100/75/50 NR/NR/NR FROST/FROST/FROST" ∷ [])
+
 pub record Inputs : Type 0 where
+  pub new-year : deskText nightShift ≡ nightShown
   -- two reports, and one that is not later than the row shown
   reports : deskText (text ("XQAA 07L/1 07R/2" ∷ "1 01120610 07L 3/5/5 75/25/NR 12/NR/NR DRY SNOW/FROST/DRY"
       ∷ "2 01120640 07R  6/6/6 NR/NR/NR NR/NR/NR DRY/DRY/DRY" ∷ "1 01120610 07L 6/6/6 DRY/DRY/DRY" ∷ []))
@@ -103,6 +112,7 @@ unfolding _and_ lines spell skip readText readMany readName readCount digits rea
     reportLine shownText answerLine shownRows answersText deskText reportLines deskBoard
     afterLine lineAnswer endAnswer withoutReturn afterByte byteAnswer fedState fedText lastStanding lastText finishText piecesText flatten
 inputs = record {
+  new-year = refl;
   reports = refl;
   order = refl;
   refused = refl;
@@ -125,3 +135,7 @@ inputs = record {
   phases = refl;
   begins = refl;
 }
+
+-- request 6: "A station on the night shift had 01010010 refused as older than 12312350": it is taken and shown, and the older one is refused behind it
+pub new-years-night : deskText nightShift ≡ nightShown
+new-years-night = inputs .new-year

@@ -52,7 +52,19 @@ pub record Depths : Type 0 where
 
 pub depths : Depths
 unfolding _and_ isDeep size rise isSignificant depthCounts thirdCounts
-depths = record { water = refl; water-back = refl; of-slush = refl; slush-back = refl; wet-snow = refl; wet-snow-back = refl; dry-snow = refl; dry-snow-back = refl; ends = refl; nr = refl; nr-back = refl }
+depths = record {
+  water = refl;
+  water-back = refl;
+  of-slush = refl;
+  slush-back = refl;
+  wet-snow = refl;
+  wet-snow-back = refl;
+  dry-snow = refl;
+  dry-snow-back = refl;
+  ends = refl;
+  nr = refl;
+  nr-back = refl;
+}
 
 abbrev snow : Third
 snow = third 3 25 10 wetSnow
@@ -116,7 +128,8 @@ pub record Rows : Type 0 where
   pub invalid-first : change bad (with 1120640 8 0 shown) ∷ change (with 1120640 8 0 shown) bad ∷ [] ≡ refused 19 ∷ refused 19 ∷ []
   pub no-time : change shown (with 2300000 7 0 shown) ≡ refused 19
   -- standing water of 03 is no row's: 19, though the difference would count
-  pub least : map (λ x. change (row (third 2 25 7 standingWater) snow snow 0) (row (third 2 25 x standingWater) snow snow 0)) (3 ∷ 4 ∷ 5 ∷ []) ≡ refused 19 ∷ compared (true ∷ false ∷ false ∷ []) true ∷ compared noThirds false ∷ []
+  pub least : map (λ x. change (row (third 2 25 7 standingWater) snow snow 0) (row (third 2 25 x standingWater) snow snow 0)) (3 ∷ 4 ∷ 5 ∷ [])
+      ≡ refused 19 ∷ compared (true ∷ false ∷ false ∷ []) true ∷ compared noThirds false ∷ []
   -- each third against the one in its own place
   pub places : change mixed mixed ∷ change mixed (row little (third 3 25 45 wetSnow) (third 3 25 86 wetSnow) 30) ∷ [] ≡ compared noThirds false ∷ compared (false ∷ true ∷ false ∷ []) true ∷ []
   -- what an answer and a refusal hold
@@ -124,5 +137,25 @@ pub record Rows : Type 0 where
   pub nothing : refused 29 ≡ record { refusal = 29; counts = false ∷ false ∷ false ∷ []; due = false }
 
 pub rows : Rows
-unfolding _and_ isShortMonth daysOf realDay realClock realTime validRunway isContaminant isDeep isCoverage validCoverage leastDepth isReported validDepth validThird threeThat sameRunway validRow size rise isSignificant depthCounts thirdCounts countsOf isDue change
-rows = record { itself = refl; less = refl; first = refl; middle = refl; third′ = refl; all-three = refl; width = refl; time = refl; apart = refl; apart-back = refl; one-side = refl; invalid = refl; invalid-first = refl; no-time = refl; least = refl; places = refl; answer = refl; nothing = refl }
+unfolding _and_ isShortMonth daysOf realDay realClock realTime validRunway isContaminant isDeep isCoverage validCoverage leastDepth isReported
+    validDepth validThird threeThat sameRunway validRow size rise isSignificant depthCounts thirdCounts countsOf isDue change
+rows = record {
+  itself = refl;
+  less = refl;
+  first = refl;
+  middle = refl;
+  third′ = refl;
+  all-three = refl;
+  width = refl;
+  time = refl;
+  apart = refl;
+  apart-back = refl;
+  one-side = refl;
+  invalid = refl;
+  invalid-first = refl;
+  no-time = refl;
+  least = refl;
+  places = refl;
+  answer = refl;
+  nothing = refl;
+}

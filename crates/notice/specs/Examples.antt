@@ -71,6 +71,11 @@ retyped = below (
     ∷ "RWY 07R SWEPT 40M.)"
     ∷ [])
 
+-- rows on both sides of New Year, under a heading
+abbrev night : String → List ℕ
+night heading = message ("GG XQAAYNYX" ∷ "010015 XQAAYNYX" ∷ heading ∷ "(SNOWTAM 0007" ∷ "XQAA"
+    ∷ "12312350 07L 6/6/6 DRY/DRY/DRY" ∷ "01010010 07R 6/6/6 DRY/DRY/DRY)" ∷ [])
+
 abbrev refusalOf : List ℕ → ℕ
 refusalOf m = reading m .refusal
 
@@ -120,6 +125,9 @@ pub record Examples : Type 0 where
       ∷ headed "SWXQ0007 XQAA 01120610" "(SNOWTAM 0007" "XQBB"
       ∷ headed "SWXQ0007 XQAA 01120610" "(SNOWTAM 0007" "XQAA"
       ∷ []) ≡ 0 ∷ 10 ∷ 11 ∷ 12 ∷ []
+  -- in season order
+  seasons : map refusalOf (night "SWXQ0007 XQAA 01010010" ∷ night "SWXQ0007 XQAA 12312350" ∷ []) ≡ 0 ∷ 12 ∷ []
+  rewritten-night : noticeText (reading (night "SWXQ0007 XQAA 01010010") .«record») ≡ night "SWXQ0007 XQAA 01010010"
 
 pub examples : Examples
 unfolding slots flat _and_ cuts closed Lines.allButLast ended run past isMark readCount readName readDigits digits spell skip readText readMany validRunway
@@ -132,7 +140,7 @@ unfolding slots flat _and_ cuts closed Lines.allButLast ended run past isMark re
     itemText itemPieces lastIs validLanguage wholeLanguage readLength readBank readNeither readDetail readTaxiway readTaxiways readApron readRunwayForm
     readTaxiForm readApronForm readBareForm readForm readBody readItem isAmong newRunways latestOf latestFrom latest readRows noticeLines notice noticeText
     agreeing readNotice reading Rows.sameRunway
-examples = record { accepted = refl; rows = refl; items = refl; rewritten = refl; missing = refl; body = refl; remarks = refl; ninth = refl; differing = refl }
+examples = record { accepted = refl; rows = refl; items = refl; rewritten = refl; missing = refl; body = refl; remarks = refl; ninth = refl; differing = refl; seasons = refl; rewritten-night = refl }
 
 -- the number and the place of a message, and of lines 1 to 5, which have 70 bytes, with what stands below them
 abbrev at : List ℕ → ℕ × ℕ

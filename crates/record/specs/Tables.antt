@@ -2,12 +2,13 @@
 use Prim.Native.Nat.{ℕ}
 use Prim.Native.String.{String}
 use mathlib.Core.Path.{_≡_, refl}
-use mathlib.Core.List.{[], _∷_, map}
+use mathlib.Core.List.{List, [], _∷_, map}
 use lib.ListN.{replicate}
 use Rattle.text.specs.Choice.{_and_}
 use Rattle.text.specs.Lines as Lines
 use Rattle.text.specs.Piece.{bytes}
 use Rattle.runway.specs.Time.{later}
+use Rattle.row.specs.declared.Row.{Row}
 use Rattle.row.specs.Row.{blankRow}
 use Rattle.items.specs.Awareness.{blankItem}
 use Rattle.body.specs.Rows.{rowsOf, latestOf, latestFrom, latest}
@@ -32,11 +33,18 @@ front first second aerodrome time = record {
 abbrev one : Rows
 one = Rows.makeRows (record { time = 1120640; number = 7; side = 0; thirds = blankRow .thirds; width = 0 } ∷ [])
 
+-- two rows of these times
+abbrev over : ℕ → ℕ → List Row
+over t s = record { time = t; number = 7; side = 1; thirds = blankRow .thirds; width = 0 }
+    ∷ record { time = s; number = 7; side = 3; thirds = blankRow .thirds; width = 0 } ∷ []
+
 pub record Parts : Type 0 where
   agree : mismatch (front 7 7 "XQAA" 1120640) (rowsOf one) ≡ 0
   serials : map (λ n. mismatch (front 7 n "XQBB" 1120610) (rowsOf one)) (6 ∷ 8 ∷ []) ≡ 10 ∷ 10 ∷ []
   aerodromes : mismatch (front 7 7 "XQBB" 1120610) (rowsOf one) ≡ 11
   times : map (λ t. mismatch (front 7 7 "XQAA" t) (rowsOf one)) (1120639 ∷ 1120641 ∷ []) ≡ 12 ∷ 12 ∷ []
+  -- in season order
+  night : map (λ t. mismatch (front 7 7 "XQAA" t) (over 12312350 1010010)) (1010010 ∷ 12312350 ∷ []) ≡ 0 ∷ 12 ∷ []
   -- "blank means all zero"
   blank : blankRecord ≡ record {
     addresses = record { priority = 0; count = 0; letters = replicate 64 0 };
@@ -49,4 +57,4 @@ pub record Parts : Type 0 where
 
 pub parts : Parts
 unfolding _and_ latestOf latestFrom latest later mismatch
-parts = record { agree = refl; serials = refl; aerodromes = refl; times = refl; blank = refl }
+parts = record { agree = refl; serials = refl; aerodromes = refl; times = refl; night = refl; blank = refl }

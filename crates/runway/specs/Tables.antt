@@ -2,10 +2,10 @@
 use Prim.Native.Nat.{ℕ}
 use mathlib.Core.Path.{_≡_, refl}
 use mathlib.Core.List.{List, [], _∷_, map}
-use mathlib.Core.Bool.{Bool, true, false}
-use Rattle.text.specs.Choice.{_and_}
+use mathlib.Core.Bool.{Bool, true, false, not}
+use Rattle.text.specs.Choice.{_and_, all}
 use Rattle.text.specs.Piece.{bytes}
-use Rattle.runway.specs.Time.{isShortMonth, daysOf, realDay, realClock, realTime, later}
+use Rattle.runway.specs.Time.{isShortMonth, daysOf, realDay, realClock, realTime, inSeason, later}
 use Rattle.runway.specs.Runway.{validRunway, sideName, sideOf, isSide}
 use Rattle.runway.specs.Code.Held.{noRunway}
 
@@ -37,10 +37,9 @@ pub record Times : Type 0 where
   pub hours : map realTime (1012300 ∷ 1012400 ∷ []) ≡ true ∷ false ∷ []
   pub minutes : map realTime (1010059 ∷ 1010060 ∷ 1012359 ∷ []) ≡ true ∷ false ∷ true ∷ []
   pub more-digits : realTime 101010000 ≡ false
-  pub before : (later 1120641 1120640 ≡ true) × (later 1120640 1120640 ≡ false) × (later 1120639 1120640 ≡ false) × (later 1010010 12312350 ≡ false)
 
 pub times : Times
-unfolding isShortMonth daysOf realDay realClock realTime later _and_
+unfolding isShortMonth daysOf realDay realClock realTime _and_
 times = record {
   last-days = refl;
   days-behind = refl;
@@ -50,8 +49,29 @@ times = record {
   hours = refl;
   minutes = refl;
   more-digits = refl;
-  before = (refl, refl, refl, refl);
 }
+
+-- times of a season in their order: 1 July first; both sides of New Year and of 29 February; 30 June last
+abbrev season : List ℕ
+season = 7010000 ∷ 7010001 ∷ 7312359 ∷ 8010000 ∷ 12312349 ∷ 12312350 ∷ 12312359 ∷ 1010000 ∷ 1010010 ∷ 2282359 ∷ 2290000 ∷ 2292359 ∷ 3010000 ∷ 6302358 ∷ 6302359 ∷ []
+
+-- whether a test holds of each time and every one before it
+abbrev withAll : (ℕ → ℕ → Bool) → List ℕ → List ℕ → Bool
+withAll test seen [] = true
+withAll test seen (s ∷ ss) = all (test s) seen and withAll test (s ∷ seen) ss
+
+-- "July comes first and June last"
+pub record Seasons : Type 0 where
+  pub order : withAll later [] season ≡ true
+  pub back : withAll (λ t s. not (later s t)) [] season ≡ true
+  pub equal : map (λ t. later t t) (7010000 ∷ 12312359 ∷ 1010000 ∷ 2290000 ∷ 6302359 ∷ []) ≡ false ∷ false ∷ false ∷ false ∷ false ∷ []
+  -- the station's own: 01010010 is later than 12312350
+  pub new-year : (later 1010010 12312350 ≡ true) × (later 12312350 1010010 ≡ false)
+  pub places : map inSeason (1010000 ∷ 7009999 ∷ 7010000 ∷ 12312359 ∷ []) ≡ 13010000 ∷ 19009999 ∷ 7010000 ∷ 12312359 ∷ []
+
+pub seasons : Seasons
+unfolding later _and_
+seasons = record { order = refl; back = refl; equal = refl; new-year = (refl, refl); places = refl }
 
 -- "Runway: 01 to 18, then nothing, L, C or R." "in item I its number may be 01 to 36"
 pub record Runways : Type 0 where

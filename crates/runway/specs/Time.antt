@@ -1,5 +1,5 @@
 -- An observation time MMDDhhmm, as a number, and which of two is later.
-use Prim.Native.Nat.{ℕ, _/_, _%_}
+use Prim.Native.Nat.{ℕ, _+_, _/_, _%_}
 use mathlib.Core.List.{[], _∷_}
 use mathlib.Core.Bool.{cond, Bool}
 use lib.Dec.{eqb, leb, ltb}
@@ -25,6 +25,14 @@ realClock hhmm = ltb (hhmm / 100) 24 and ltb (hhmm % 100) 60
 unfoldable pub realTime : ℕ → Bool
 realTime t = realDay (t / 1000000) (t / 10000 % 100) and realClock (t % 10000)
 
--- "times being compared as plain eight-digit numbers": the one order of times
+-- "from 1 July"
+abbrev pub seasonStart : ℕ
+seasonStart = 7010000
+
+-- "July comes first and June last": January to June follow December, as if they were months 13 to 18
+abbrev pub inSeason : ℕ → ℕ
+inSeason t = cond (ltb t seasonStart) (t + 12000000) t
+
+-- season order: the one order of times
 unfoldable pub later : ℕ → ℕ → Bool
-later t s = ltb s t
+later t s = ltb (inSeason s) (inSeason t)

@@ -4,7 +4,7 @@ ghost use mathlib.Core.Path.{_≡_};
 ghost use lib.ListN.{drop};
 ghost use Rattle.text.specs.Piece.{canonical, spell};
 ghost use Rattle.text.specs.Put.{Put};
-ghost use Rattle.runway.specs.Time.{isShortMonth, daysOf, realDay, realClock, realTime, later};
+ghost use Rattle.runway.specs.Time.{isShortMonth, daysOf, realDay, realClock, realTime, inSeason, later};
 ghost use Rattle.runway.specs.Runway.{sideName, validRunway, runwayPieces, readSide, readRunway};
 ghost use Rattle.runway.specs.Code.Held.{HeldSide, HeldRunway};
 use fill::put;
@@ -87,11 +87,27 @@ pub fn real_time(t: u32) -> bool
     false
 }
 
-// Whether `t` was observed later than `s`.
+// A season goes from 1 July to 30 June, so that a board and a notice may go on over New Year.
+const SEASON_START: u32 = 7010000;
+
+const TWELVE_MONTHS: u32 = 12000000;
+
+// A time as it stands in its season: January to June follow December, as if they were months 13 to 18.
+fn in_season(t: u32) -> u32
+    ensures { λ r. ⌜ r ≡ inSeason t ⌝ }
+{
+    if t < SEASON_START {
+        t + TWELVE_MONTHS
+    } else {
+        t
+    }
+}
+
+// Whether `t` was observed later in the season than `s`.
 pub fn is_later(t: u32, s: u32) -> bool
     ensures { λ r. ⌜ r ≡ later t s ⌝ }
 {
-    s < t
+    in_season(s) < in_season(t)
 }
 
 // Numbers 01 to the highest; none, L, C or R.
