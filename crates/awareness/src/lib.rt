@@ -1,5 +1,7 @@
 // The awareness line and its items, read at their place in a message.
 
+#![tactic(auto)]
+
 ghost use Rattle.std.specs.Prelude.{true, ◌≡◌, ◌*◌, ◌≤◌, length, drop, replicate};
 ghost use Rattle.std.proofs.lemmas.List.Edits.{sets};
 ghost use Rattle.text.specs.Choice.{all};
@@ -24,7 +26,7 @@ use scan::{CAPITALS_AND_DIGITS, LETTERS, counted, digits, run, spaces, word};
 use text::{Found, NO_SPAN, NONE, Span, place};
 
 // An item at a place of a text, and the place behind it.
-#[derive(Drop)]
+#[derive(Clone, Copy)]
 struct ItemFound {
     fits: bool,
     item: Item,
@@ -32,7 +34,7 @@ struct ItemFound {
 }
 
 // The items of an awareness line, zeros behind them; none where the line does not fit.
-#[derive(Drop)]
+#[derive(Clone, Copy)]
 pub struct ItemsRead {
     pub fits: bool,
     pub count: u8,
@@ -40,7 +42,7 @@ pub struct ItemsRead {
 }
 
 // What a runway's item says besides its letter.
-#[derive(Drop)]
+#[derive(Clone, Copy)]
 struct DetailFound {
     fits: bool,
     edge: u8,
@@ -56,7 +58,7 @@ const NO_DETAIL: DetailFound = DetailFound {
 };
 
 // Taxiways one behind the other, three bytes for each and zeros behind them.
-#[derive(Drop)]
+#[derive(Clone, Copy)]
 struct TaxiwaysFound {
     count: u8,
     taxiways: [u8; 24],

@@ -1,6 +1,8 @@
 // The board: the rows last observed on the runways of one aerodrome. Its rules, opening and reports.
 // The definitions that the promises cite stand in specs/; demand 3 is specs/Theorems.
 
+#![tactic(auto)]
+
 ghost use Rattle.std.specs.Prelude.{◌≡◌, ltb, take, drop, cond};
 ghost use Rattle.text.specs.Choice.{all};
 ghost use Rattle.row.specs.Row.{is_blank_row};
@@ -16,7 +18,7 @@ use scan::zeros_from;
 use text::refusal;
 
 #[repr(C)]
-#[derive(Drop)]
+#[derive(Clone, Copy)]
 pub struct Runway {
     pub number: u8,
     // 0 none, 1 L, 2 C, 3 R
@@ -25,7 +27,7 @@ pub struct Runway {
 
 // Zeros in every place that is unused or unreported.
 #[repr(C)]
-#[derive(Drop)]
+#[derive(Clone, Copy)]
 pub struct Board {
     pub aerodrome: [u8; 4],
     pub count: u8,
@@ -38,7 +40,7 @@ pub struct Board {
 }
 
 // A report: a row, and the desk that sends it.
-#[derive(Drop)]
+#[derive(Clone, Copy)]
 pub struct Sent {
     pub desk: u32,
     pub row: Row,
@@ -46,7 +48,7 @@ pub struct Sent {
 
 // A refusal number, 0 for taken, and the board afterwards.
 #[repr(C)]
-#[derive(Drop)]
+#[derive(Clone, Copy)]
 pub struct Answer {
     pub refusal: u8,
     pub board: Board,

@@ -1,5 +1,7 @@
 // A board written as a notice.
 
+#![tactic(auto)]
+
 ghost use Rattle.std.specs.Prelude.{◌≡◌};
 ghost use Rattle.body.specs.Rows.{make_rows};
 ghost use Rattle.board.specs.Board.{reported};
@@ -18,7 +20,7 @@ use text::{Written, refusal};
 
 // What the heading of a notice says besides the aerodrome and the time.
 #[repr(C)]
-#[derive(Drop)]
+#[derive(Clone, Copy)]
 pub struct Details {
     pub addresses: Addresses,
     pub filing: Filing,

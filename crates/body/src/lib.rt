@@ -1,6 +1,8 @@
 // The rows of a notice.
 // Lines are read at their place in the message; each writer of a line gets the rest of the buffer.
 
+#![tactic(auto)]
+
 ghost use Rattle.std.specs.Prelude.{◌≡◌, [], map, eqb, ltb, take, drop, cond};
 ghost use Rattle.text.specs.Refusals.{outline};
 ghost use Rattle.text.specs.Choice.{all};
@@ -21,14 +23,14 @@ use text::{first_line, is_closed, place, refusal};
 
 // 1 to 8 rows, zeros past the count.
 #[repr(C)]
-#[derive(Drop)]
+#[derive(Clone, Copy)]
 pub struct Rows {
     pub count: u8,
     pub rows: [Row; 8],
 }
 
 // The rows of a message. A refused reading is blank but for its place; `)` closed the rows, or what follows them starts at `next`.
-#[derive(Drop)]
+#[derive(Clone, Copy)]
 pub struct RowsRead {
     pub refusal: u8,
     pub place: usize,
@@ -157,7 +159,7 @@ pub fn latest_time(r: Rows) -> u32
 }
 
 // A line in a row's place: its row, or the refusal and its place, and whether `)` closes it.
-#[derive(Drop)]
+#[derive(Clone, Copy)]
 pub struct RowLine {
     pub refusal: u8,
     pub place: usize,

@@ -1,4 +1,6 @@
 // The desk: keeps one board and updates it report by report. It reads its input in pieces, hands each to the proved desk, and writes what that puts.
+
+#![tactic(auto)]
 ghost use Rattle.std.specs.Prelude.{◌≤◌, length};
 
 use desktext::{OVER, State, feed, finish, start};
@@ -13,7 +15,7 @@ const ROOM: usize = 45056;
 const LAST_ROOM: usize = 1195;
 
 // The state after a piece; the desk stops when its opening was refused, or nothing can be written any more.
-#[derive(Drop)]
+#[derive(Clone, Copy)]
 struct Next {
     state: State,
     stops: bool,

@@ -1,5 +1,7 @@
 // The desk: what its lines mean, and what it prints for an input that arrives in pieces: the board opened, each report answered, the rows shown.
 
+#![tactic(auto)]
+
 ghost use Rattle.std.specs.Prelude.{◌≡◌, length, take, drop, get_or};
 ghost use Rattle.text.specs.Put.{Put};
 ghost use Rattle.board.specs.Report.{row_at};
@@ -29,7 +31,7 @@ use text::{Found, LONGEST, NONE, place, refusal};
 
 // Runways and their owners in their arrays, zeros past the count; none where the text does not fit.
 #[repr(C)]
-#[derive(Drop)]
+#[derive(Clone, Copy)]
 pub struct RunwayList {
     pub count: u8,
     pub runways: [Runway; 8],
@@ -37,7 +39,7 @@ pub struct RunwayList {
 }
 
 // A runway, its owner, and the place behind them.
-#[derive(Drop)]
+#[derive(Clone, Copy)]
 struct OwnedFound {
     fits: bool,
     runway: Runway,
@@ -287,14 +289,14 @@ pub const KEEPING: u8 = 1;
 pub const OVER: u8 = 2;
 
 // Where the desk stands between two lines; its board is blank unless it keeps one.
-#[derive(Drop)]
+#[derive(Clone, Copy)]
 pub struct Standing {
     pub phase: u8,
     pub board: Board,
 }
 
 // The desk after a line, and the place behind what was put.
-#[derive(Drop)]
+#[derive(Clone, Copy)]
 struct Turn {
     standing: Standing,
     behind: usize,
@@ -378,7 +380,7 @@ const CR: u8 = 13;
 const MOST_KEPT: usize = 4098;
 
 // Where the desk stands, and the bytes of the line that has not ended yet: the first `count` of those held.
-#[derive(Drop)]
+#[derive(Clone, Copy)]
 pub struct State {
     pub standing: Standing,
     pub held: [u8; 4098],
@@ -386,7 +388,7 @@ pub struct State {
 }
 
 // The state after a piece, and the place behind what was put.
-#[derive(Drop)]
+#[derive(Clone, Copy)]
 pub struct Fed {
     pub state: State,
     pub behind: usize,

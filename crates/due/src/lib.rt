@@ -1,5 +1,7 @@
 // When a new notice is due: what a new row of a runway changes against the row shown.
 
+#![tactic(auto)]
+
 ghost use Rattle.std.specs.Prelude.{◌≡◌, [], ◌∷◌};
 ghost use Rattle.text.specs.Choice.{◌and◌};
 ghost use Rattle.row.specs.Row.{valid_row};
@@ -11,7 +13,7 @@ use surface::{Third, line_of};
 use text::refusal;
 
 #[repr(C)]
-#[derive(Drop)]
+#[derive(Clone, Copy)]
 pub struct Change {
     // 0 for two rows that are compared
     pub refusal: u8,

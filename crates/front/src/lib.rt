@@ -1,5 +1,7 @@
 // Lines 1 to 5 of a notice: read one after the other, and put one under the other.
 
+#![tactic(auto)]
+
 ghost use Rattle.std.specs.Prelude.{◌≡◌, ◌∷◌};
 ghost use Rattle.text.specs.Piece.{canonical};
 ghost use Rattle.text.specs.Put.{Put};
@@ -17,7 +19,7 @@ use text::{first_line, place, refusal};
 // ---- Reading
 
 // What lines 1 to 5 say, as far as they are read.
-#[derive(Drop)]
+#[derive(Clone, Copy)]
 pub struct Front {
     pub addresses: Addresses,
     pub filing: Filing,
@@ -30,7 +32,7 @@ pub struct Front {
 }
 
 // The front of a message; what is below it starts at `next`. Blank where a line does not fit, with the refusal of the first such and its place.
-#[derive(Drop)]
+#[derive(Clone, Copy)]
 pub struct FrontRead {
     pub refusal: u8,
     pub place: usize,

@@ -1,6 +1,8 @@
 // Lines 1 to 5 of a notice: who it is for, who filed it, what it is about.
 // Each line is read whole, at its place in the message, and put into the rest of a buffer.
 
+#![tactic(auto)]
+
 ghost use Rattle.std.specs.Prelude.{◌≡◌, ◌*◌, take, drop, replicate};
 ghost use Rattle.std.proofs.lemmas.List.Edits.{sets};
 ghost use Rattle.text.specs.Choice.{◌and◌, all, member};
@@ -22,7 +24,7 @@ use text::{Found, NO_SPAN, NONE, Span};
 
 // Line 1. Zeros stand past the last address.
 #[repr(C)]
-#[derive(Drop)]
+#[derive(Clone, Copy)]
 pub struct Addresses {
     // 1 GG, 2 DD
     pub priority: u8,
@@ -33,7 +35,7 @@ pub struct Addresses {
 
 // Line 2.
 #[repr(C)]
-#[derive(Drop)]
+#[derive(Clone, Copy)]
 pub struct Filing {
     // ddhhmm as a number
     pub time: u32,
@@ -42,7 +44,7 @@ pub struct Filing {
 
 // Line 3 without its time, which a record works out from its rows.
 #[repr(C)]
-#[derive(Drop)]
+#[derive(Clone, Copy)]
 pub struct Title {
     pub region: [u8; 2],
     pub serial: u16,
@@ -50,33 +52,33 @@ pub struct Title {
 }
 
 // What a line says; blank where it does not fit.
-#[derive(Drop)]
+#[derive(Clone, Copy)]
 pub struct AddressesRead {
     pub fits: bool,
     pub addresses: Addresses,
 }
 
-#[derive(Drop)]
+#[derive(Clone, Copy)]
 pub struct FilingRead {
     pub fits: bool,
     pub filing: Filing,
 }
 
-#[derive(Drop)]
+#[derive(Clone, Copy)]
 pub struct HeadingRead {
     pub fits: bool,
     pub title: Title,
     pub time: u32,
 }
 
-#[derive(Drop)]
+#[derive(Clone, Copy)]
 pub struct AerodromeRead {
     pub fits: bool,
     pub aerodrome: [u8; 4],
 }
 
 // The addresses behind a priority; none where they do not fit.
-#[derive(Drop)]
+#[derive(Clone, Copy)]
 struct AddressList {
     count: u8,
     letters: [u8; 64],

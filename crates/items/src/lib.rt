@@ -1,5 +1,7 @@
 // Awareness items and plain language: what a record may hold of them.
 
+#![tactic(auto)]
+
 ghost use Rattle.std.specs.Prelude.{◌≡◌, ◌≤◌, length, take, drop};
 ghost use Rattle.text.specs.Choice.{all, member, head_is};
 ghost use Rattle.text.specs.Names.{is_name};
@@ -20,7 +22,7 @@ use scan::{CAPITALS_AND_DIGITS, LETTERS, all_plain, counted, run, same_bytes, ze
 
 // An awareness item, zeros in every field that its letter does not use.
 #[repr(C)]
-#[derive(Drop)]
+#[derive(Clone, Copy)]
 pub struct Item {
     // I: the length; M: the distance
     pub amount: u16,
@@ -41,7 +43,7 @@ pub struct Item {
 
 // Up to 32 items, zeros past the count.
 #[repr(C)]
-#[derive(Drop)]
+#[derive(Clone, Copy)]
 pub struct Items {
     pub count: u8,
     pub items: [Item; 32],
@@ -49,7 +51,7 @@ pub struct Items {
 
 // Up to 400 bytes of plain language, zeros past the length.
 #[repr(C)]
-#[derive(Drop)]
+#[derive(Clone, Copy)]
 pub struct Language {
     pub length: u16,
     pub bytes: [u8; 400],

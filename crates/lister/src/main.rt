@@ -1,4 +1,6 @@
 // The lister: reads one message from standard input, whole, and prints what `listing` says of it.
+
+#![tactic(auto)]
 use libc::{STDIN_FILENO, STDOUT_FILENO};
 use listing::list;
 

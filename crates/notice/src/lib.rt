@@ -1,5 +1,7 @@
 // A notice: a message read as a record, a record written as a message, and whether two messages tell the same.
 
+#![tactic(auto)]
+
 ghost use Rattle.std.specs.Prelude.{◌≡◌, true, leb, length};
 ghost use Rattle.text.specs.Choice.{◌and◌};
 ghost use Rattle.sameness.specs.Same.{same_rows, same_items, same_language};

@@ -1,5 +1,7 @@
 // The C interface: the library's own functions under the names of include/phengaryl.h, each with its promise. Nothing here relies on a caller.
 
+#![tactic(auto)]
+
 ghost use Rattle.std.specs.Prelude.{◌≡◌};
 ghost use Rattle.text.specs.Put.{Put};
 ghost use Rattle.surface.specs.Assess.{assessing};

@@ -1,5 +1,7 @@
 // A radio record for the inspection cars, whose link carries few bytes: rows as numbers in groups of seven bits.
 
+#![tactic(auto)]
+
 ghost use Rattle.std.specs.Prelude.{◌≡◌, [], ◌∷◌, true, ◌+◌, ◌-◌, ◌<◌, ◌≤◌, leb, length, drop};
 ghost use Rattle.text.specs.Choice.{all};
 ghost use Rattle.text.specs.Put.{Put};
@@ -24,7 +26,7 @@ use text::{Written, refusal};
 
 // The rows of a record, or why they are none.
 #[repr(C)]
-#[derive(Drop)]
+#[derive(Clone, Copy)]
 pub struct Radio {
     // 0 for a record that is read
     pub refusal: u8,
@@ -37,7 +39,7 @@ pub struct Radio {
 const MORE: u32 = 128;
 
 // The number at the front of a record, and the place behind it.
-#[derive(Drop)]
+#[derive(Clone, Copy)]
 pub struct NumberFound {
     pub refusal: u8,
     pub value: u32,
@@ -170,7 +172,7 @@ fn minutes_of(t: u32) -> u32
 // ---- A row's numbers
 
 // What a number of a row says; of a third, counted from 0.
-#[derive(Drop)]
+#[derive(Clone, Copy)]
 pub enum Field {
     Minutes,
     Runway,
@@ -301,7 +303,7 @@ fn number_of(row: Row, field: Field) -> u32
 // ---- Reading
 
 // The row at the front of a record, and the place behind it.
-#[derive(Drop)]
+#[derive(Clone, Copy)]
 pub struct RowFound {
     pub refusal: u8,
     pub row: Row,
@@ -410,7 +412,7 @@ pub fn read_radio(bytes: &[u8]) -> Radio
 // ---- Writing
 
 // The groups of a number: the first `size` of the bytes.
-#[derive(Drop)]
+#[derive(Clone, Copy)]
 pub struct Groups {
     pub size: usize,
     pub bytes: [u8; 3],

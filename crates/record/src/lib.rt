@@ -1,5 +1,7 @@
 // The record: what a message says, part by part. Its rules, its text, and the answer to a message whose parts fit.
 
+#![tactic(auto)]
+
 ghost use Rattle.std.specs.Prelude.{◌≡◌};
 ghost use Rattle.text.specs.Choice.{◌and◌};
 ghost use Rattle.text.specs.Put.{Put};
@@ -22,7 +24,7 @@ use text::refusal;
 
 // What a message says, part by part; the heading time is the latest row time and is not stored.
 #[repr(C)]
-#[derive(Drop)]
+#[derive(Clone, Copy)]
 pub struct Record {
     pub addresses: Addresses,
     pub filing: Filing,
@@ -34,7 +36,7 @@ pub struct Record {
 
 // A refusal number and the place of what is wrong, 0 and 0 for accepted, and the record: blank where it is refused.
 #[repr(C)]
-#[derive(Drop)]
+#[derive(Clone, Copy)]
 pub struct Reading {
     pub refusal: u8,
     pub place: usize,

@@ -1,5 +1,7 @@
 // What stands below the rows of a notice: the awareness line and the plain language, read, judged and put.
 
+#![tactic(auto)]
+
 ghost use Rattle.std.specs.Prelude.{◌≡◌, ◌≤◌, length, cond};
 ghost use Rattle.text.specs.Choice.{◌and◌, is_empty};
 ghost use Rattle.text.specs.Piece.{canonical, verbatim};
@@ -71,7 +73,7 @@ pub fn put_remarks(out: &mut [u8], at: usize, items: Items, language: Language) 
 }
 
 // The items and the plain language below the rows. A refused reading is blank but for its place, counted from where they start.
-#[derive(Drop)]
+#[derive(Clone, Copy)]
 pub struct RemarksRead {
     pub refusal: u8,
     pub place: usize,

@@ -1,5 +1,7 @@
 // A runway row and its rules; the agreement check.
 
+#![tactic(auto)]
+
 ghost use Rattle.std.specs.Prelude.{◌≡◌, [], ◌∷◌, ◌≤◌};
 ghost use Rattle.text.specs.Choice.{all};
 ghost use Rattle.surface.specs.Third.{valid_third, is_blank_third};
@@ -12,7 +14,7 @@ use text::refusal;
 
 // In every field 0 stands for NR and for what is missing.
 #[repr(C)]
-#[derive(Drop)]
+#[derive(Clone, Copy)]
 pub struct Row {
     // MMDDhhmm as a number
     pub time: u32,
@@ -167,7 +169,7 @@ pub fn same_runway(a: Row, b: Row) -> bool
 // ---- Agreement with Table 1
 
 #[repr(C)]
-#[derive(Drop)]
+#[derive(Clone, Copy)]
 pub struct Agreement {
     // 0 for a row that is judged, else 19
     pub refusal: u8,

@@ -1,5 +1,7 @@
 // The text of a runway row: read as a line, and put into a buffer.
 
+#![tactic(auto)]
+
 ghost use Rattle.std.specs.Prelude.{◌≡◌, [], ◌∷◌, ◌<◌, ◌≤◌, leb, length, drop};
 ghost use Rattle.text.specs.Choice.{all};
 ghost use Rattle.text.specs.Piece.{canonical};
@@ -27,7 +29,7 @@ use thirds::{CODES, COVERAGES, DEPTHS, DESCRIPTIONS, NO_TRIO, Trio, put_group, r
 
 // A group read into a row: the row and the place behind the group, or the refusal and its place. Both places are counted within the part of the
 // line that was handed over.
-#[derive(Drop)]
+#[derive(Clone, Copy)]
 pub struct Step {
     // 0 for a group that fits
     pub refusal: u8,
@@ -415,7 +417,7 @@ fn group_into(group: u8, row: Row, s: &[u8]) -> Step
 }
 
 #[repr(C)]
-#[derive(Drop)]
+#[derive(Clone, Copy)]
 pub struct RowRead {
     // 0 for a row that is taken, else 5 or 24 to 28
     pub refusal: u8,

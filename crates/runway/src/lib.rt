@@ -1,5 +1,7 @@
 // Observation times and runways: what a row, an item and a place of the board name.
 
+#![tactic(auto)]
+
 ghost use Rattle.std.specs.Prelude.{◌≡◌, drop};
 ghost use Rattle.text.specs.Piece.{canonical, spell};
 ghost use Rattle.text.specs.Put.{Put};
@@ -11,7 +13,7 @@ use fill::{put, put_digits};
 use scan::digits;
 
 // A runway that stands at a place of a text, and the place behind it.
-#[derive(Drop)]
+#[derive(Clone, Copy)]
 pub struct RunwayFound {
     pub fits: bool,
     pub number: u8,
@@ -124,7 +126,7 @@ pub fn valid_runway(highest: u8, number: u8, side: u8) -> bool
 }
 
 // L, C, R or nothing at `i`, and the place behind it.
-#[derive(Drop)]
+#[derive(Clone, Copy)]
 pub struct Side {
     pub side: u8,
     pub next: usize,

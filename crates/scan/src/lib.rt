@@ -1,5 +1,7 @@
 // Texts, numbers and runs of bytes, read at a place in a message.
 
+#![tactic(auto)]
+
 ghost use Rattle.std.specs.Prelude.{◌≡◌, ◌+◌, ◌<◌, ◌≤◌, length, take, drop, if◌then◌else◌, nat_le};
 ghost use Rattle.text.specs.Choice.{all, same_bytes};
 ghost use Rattle.text.specs.Arrays.{is_zero};

@@ -1,5 +1,7 @@
 // A third of a runway: what it may hold, how an observation of it is assessed, and whether its code agrees with Table 1.
 // In every field 0 stands for NR.
+
+#![tactic(auto)]
 ghost use Rattle.std.specs.Prelude.{◌≡◌, ◌+◌, ◌<◌, ◌∷◌, true, length, drop};
 ghost use Rattle.surface.specs.Descriptions.{is_contaminant, table3, line_of, is_deep};
 ghost use Rattle.surface.specs.Third.{is_blank_third, is_coverage, valid_coverage, is_reported, valid_depth, valid_third};
@@ -20,7 +22,7 @@ use text::refusal;
 pub mod description;
 
 #[repr(C)]
-#[derive(Drop)]
+#[derive(Clone, Copy)]
 pub struct Third {
     pub code: u8,
     // 25, 50, 75, 100
@@ -31,7 +33,7 @@ pub struct Third {
 }
 
 #[repr(C)]
-#[derive(Drop)]
+#[derive(Clone, Copy)]
 pub struct Observation {
     pub kind: u32,
     // per cent
@@ -44,7 +46,7 @@ pub struct Observation {
 }
 
 #[repr(C)]
-#[derive(Drop)]
+#[derive(Clone, Copy)]
 pub struct Assessment {
     // 0 for an observation that is taken
     pub refusal: u8,
@@ -91,7 +93,7 @@ pub fn valid_coverage(t: Third) -> bool
 }
 
 // A contaminant that has a depth, the least of it that is reported, and the difference that is a significant change, in millimetres.
-#[derive(Drop)]
+#[derive(Clone, Copy)]
 pub struct Contaminant(pub u8, pub u16, pub u16);
 
 const DEEP: usize = 4;
@@ -192,14 +194,14 @@ pub fn is_blank_third(t: Third) -> bool
 // ---- Table 1
 
 // The kinds of surface that an entry of Table 1 names: one, or one "or" another.
-#[derive(Drop)]
+#[derive(Clone, Copy)]
 pub enum Kinds {
     One(u8),
     Either(u8, u8),
 }
 
 // What an entry says besides its kinds.
-#[derive(Drop)]
+#[derive(Clone, Copy)]
 pub enum Condition {
     Always,
     NotSlippery,
@@ -213,7 +215,7 @@ pub enum Condition {
 }
 
 // The code, the kinds of surface, and the condition under which they have the code.
-#[derive(Drop)]
+#[derive(Clone, Copy)]
 pub struct Entry(pub u8, pub Kinds, pub Condition);
 
 const MINUS_15_DEGREES: i32 = -150;

@@ -1,6 +1,8 @@
 // A test: prints what the code answers at the edges, to be held against what the models in compare/ answer. First come the assessor's
 // observations, then each part of the input in its order. A part stands behind a line with its letter, `M` for a message or `R` for the
 // text of a row, and its length in five digits; an LF stands behind it.
+
+#![tactic(auto)]
 mod messages;
 mod observations;
 mod output;
@@ -22,7 +24,7 @@ const LENGTH_DIGITS: usize = 5;
 const MOST: u32 = 9999;
 
 // What a part is, and where it starts and ends.
-#[derive(Drop)]
+#[derive(Clone, Copy)]
 struct Part {
     letter: u8,
     start: usize,

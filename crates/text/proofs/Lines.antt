@@ -15,7 +15,6 @@ use Rattle.text.specs.Lines.{feeds, is_return, end_size, line_size, line_step, c
 use Rattle.text.specs.Choice.{all}
 use Rattle.text.specs.declared.Line.{Line}
 use Rattle.text.specs.Code.Held.{Reached, first_line, is_unfed}
-use Rattle.text.specs.Laws.Sizes.{size}
 use Rattle.text.specs.Laws.Base.{and-1, and-2, true-false}
 use Rattle.text.specs.Laws.Held.{reached-length}
 use Rattle.text.specs.Laws.Runs.{run_in, run-taken}

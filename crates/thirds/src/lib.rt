@@ -1,4 +1,6 @@
 // The groups of thirds of a runway row's text: codes, coverages, depths and descriptions, joined by `/`.
+
+#![tactic(auto)]
 ghost use Rattle.std.specs.Prelude.{◌≤◌, drop};
 ghost use Rattle.text.specs.Piece.{canonical};
 ghost use Rattle.text.specs.Numbers.{read_number};
@@ -28,7 +30,7 @@ pub const DEPTHS: u8 = 2;
 pub const DESCRIPTIONS: u8 = 3;
 
 // A number for each third, and the place behind them.
-#[derive(Drop)]
+#[derive(Clone, Copy)]
 pub struct Trio {
     pub fits: bool,
     pub one: u32,

@@ -1,5 +1,7 @@
 // Items put into words: the text of an item, and the awareness line that items make.
 
+#![tactic(auto)]
+
 ghost use Rattle.std.specs.Prelude.{[], ◌++◌, eqb, take, cond};
 ghost use Rattle.text.specs.Numbers.{number};
 ghost use Rattle.text.specs.Piece.{canonical, spell, bytes};

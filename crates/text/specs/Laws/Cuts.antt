@@ -1,6 +1,6 @@
 -- The cuts of a message are its lines, and each stands where it says.
-use Rattle.std.specs.Prelude.{ℕ, suc, ◌<◌, ◌≡◌, refl, List, [], ◌∷◌, ◌++◌, map, cond, Bool, true, false, ◌&&◌, eqb, length, take, drop}
-use Rattle.std.proofs.Common.{sym, ◌∙◌, ap, subst, append_assoc, arith}
+use Rattle.std.specs.Prelude.{ℕ, suc, ◌<◌, ◌≡◌, refl, List, [], ◌∷◌, map, cond, Bool, true, false, ◌&&◌, eqb, length, take, drop}
+use Rattle.std.proofs.Common.{sym, ◌∙◌, ap, subst, arith}
 use Rattle.text.specs.Lines.{feeds, is_return, push, lines, Cut, cut, text, onward, push_text, push_end, cuts, end_size, line_size, line_step}
 use Rattle.text.specs.Laws.Base.{true-false, and_r}
 use Rattle.text.specs.Laws.Left.{Left, here, later}
