@@ -1,9 +1,7 @@
 -- What is in range fits the fields of a third.
-use Prim.Native.Nat.{ℕ, ◌≤◌}
 use mathlib.Core.Path.{◌≡◌}
 use mathlib.Core.Bool.{true}
 use native.Mathlib.Omega.{arith}
-use lib.Dec.{leb}
 use mir.Syntax.{w8, w16}
 use mir.Val.{Fits}
 use borrow.Author.Rules.{Fits-under}

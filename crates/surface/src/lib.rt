@@ -2,6 +2,7 @@
 // In every field 0 stands for NR.
 
 #![tactic(auto)]
+
 ghost use Rattle.std.specs.Prelude.{◌≡◌, ◌+◌, ◌<◌, ◌∷◌, true, length, drop};
 ghost use Rattle.surface.specs.Descriptions.{is_contaminant, table3, line_of, is_deep};
 ghost use Rattle.surface.specs.Third.{is_blank_third, is_coverage, valid_coverage, is_reported, valid_depth, valid_third};

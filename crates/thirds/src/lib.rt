@@ -1,6 +1,7 @@
 // The groups of thirds of a runway row's text: codes, coverages, depths and descriptions, joined by `/`.
 
 #![tactic(auto)]
+
 ghost use Rattle.std.specs.Prelude.{◌≤◌, drop};
 ghost use Rattle.text.specs.Piece.{canonical};
 ghost use Rattle.text.specs.Numbers.{read_number};

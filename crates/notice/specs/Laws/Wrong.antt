@@ -87,6 +87,7 @@ stage-on (s₁ e w₁) (filing u) = s₂ e w₁ (said filing-laws u)
 stage-on (s₂ e w₁ w₂) (heading u) = s₃ e w₁ w₂ (said heading-laws u)
 stage-on (s₃ e w₁ w₂ w₃) (serial u) = s₄ e w₁ w₂ w₃ (said serial-line-laws u)
 stage-on (s₄ e w₁ w₂ w₃ w₄) (aerodrome u) = s₅ e w₁ w₂ w₃ w₄ (said aerodrome-laws u)
+stage-on (s₅ _ _ _ _ _ _) f = elim f [ ]
 
 -- where they stand
 stage-there : {m : List ℕ} {k : ℕ} {cs : List Cut} → Stage m k cs → drop k (cuts m) ≡ cs

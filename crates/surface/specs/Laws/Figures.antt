@@ -1,5 +1,5 @@
 -- "Over" a figure of Table 1 is what "to" it leaves.
-use Rattle.std.specs.Prelude.{ℕ, ◌≤◌, ◌≡◌, refl, Bool, true, false, not, leb, ltb, ℤ, pos, negsuc}
+use Rattle.std.specs.Prelude.{ℕ, ◌≡◌, refl, Bool, true, false, not, leb, ltb, ℤ, pos, negsuc}
 use Rattle.std.specs.Int.Signed.{le_z, lt_z}
 use Rattle.std.proofs.Common.{leb-true, leb-false, lt-ltb, le-ltb}
 

@@ -1,5 +1,5 @@
 -- What the assessor reports is a third that a row may hold, and its code agrees with Table 1.
-use Rattle.std.specs.Prelude.{ℕ, suc, ◌≤◌, ◌≡◌, cond, not, eqb, leb, ltb}
+use Rattle.std.specs.Prelude.{ℕ, suc, ◌≡◌, cond, not, eqb, leb, ltb}
 use Rattle.std.proofs.Math.Path.{refl}
 use Rattle.std.proofs.Common.{sym, ◌∙◌, leb-true, le-leb, eq-eqb, ltb-true, ltb-false, lt-ltb, arith}
 use Rattle.std.proofs.Math.Bool.{Bool, true, false}
@@ -13,7 +13,7 @@ use Rattle.surface.specs.declared.Observation.{Observation}
 use Rattle.surface.specs.declared.Entry.{Entry}
 use Rattle.surface.specs.declared.Condition.{Condition}
 use Rattle.surface.specs.declared.Condition.TheVariants.{Always, NotSlippery, Slippery, DepthTo, DepthOver, TemperatureTo, TemperatureOver}
-use Rattle.surface.specs.Descriptions.{not_reported, standing_water, wet, wet_snow_on_ice, dry, is_contaminant, is_deep}
+use Rattle.surface.specs.Descriptions.{not_reported, wet, wet_snow_on_ice, dry, is_contaminant, is_deep}
 use Rattle.surface.specs.Third.{third, blank_third, is_code, is_coverage, valid_coverage, least_depth, is_reported, valid_depth, valid_third, greatest_depth}
 use Rattle.surface.specs.Table1.{table1, named, code, kinds, condition, is_named, holds, is_for, can_hold, allows, agrees}
 use Rattle.surface.specs.Assess.{is_kind, in_range, covered_dry, contradictory, coverage_for, uncovered, is_thin_water, reported_kind, reported_depth}
