@@ -1,5 +1,5 @@
 -- The size of a signed difference, in plain numbers.
-use Rattle.std.specs.Prelude.{ℕ, zero, suc, ◌+◌, ◌-◌, ◌≤◌, ◌≡◌, refl, cond, Bool, true, false, leb, ltb, nat_abs}
+use Rattle.std.specs.Prelude.{ℕ, zero, suc, ◌+◌, ◌-◌, ◌≡◌, refl, cond, Bool, true, false, leb, ltb, nat_abs}
 use Rattle.std.proofs.Math.IntN.{sub_ℕ}
 use Rattle.std.proofs.Common.{ltb-true, ltb-false, leb-true, leb-false, le-leb, arith}
 use Rattle.std.proofs.lemmas.Bool.{lt-leb}

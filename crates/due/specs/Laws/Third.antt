@@ -1,6 +1,6 @@
 -- A third against another: each sentence of the request, and both ways round.
 use Rattle.std.specs.Prelude.{ℕ, ◌+◌, ◌≡◌, refl, cond, Bool, true, false, not, eqb, leb}
-use Rattle.std.proofs.Common.{sym, ◌∙◌, ap, eqb-true, eq-eqb, ne_eqb, leb-true, le-leb, arith}
+use Rattle.std.proofs.Common.{sym, ◌∙◌, eqb-true, eq-eqb, ne_eqb, leb-true, le-leb, arith}
 use Rattle.std.proofs.lemmas.Bool.{eqb-false, not-true}
 use Rattle.text.specs.Choice.{◌and◌}
 use Rattle.text.specs.Laws.Base.{and-1, and-2}

@@ -5,7 +5,7 @@ use Rattle.std.proofs.lemmas.List.{length-map}
 use Rattle.text.specs.Choice.{◌and◌, all}
 use Rattle.text.specs.Piece.{gap, loose, bytes, words, spell, verbatim, lay_all}
 use Rattle.text.specs.Names.{is_name}
-use Rattle.text.specs.Numbers.{digits, number}
+use Rattle.text.specs.Numbers.{digits}
 use Rattle.text.specs.Arrays.{slots}
 use Rattle.text.specs.Laws.Base.{and-1, and-2}
 use Rattle.text.specs.Laws.Many.{Every, all-every}

@@ -1,0 +1,11 @@
+use Rattle.text.specs.Laws.Tests.{tests}
+use Rattle.row.specs.Row.{same_runway}
+use Rattle.row.proofs.same_runway.Goals as goal
+
+pub returns-then-a-b : goal.returns-then-a-b
+unfolding same_runway
+returns-then-a-b c = search tests
+
+pub returns : goal.returns
+unfolding same_runway
+returns c = search tests
