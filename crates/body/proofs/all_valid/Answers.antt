@@ -1,6 +1,4 @@
-use Prim.Native.Nat.{◌-◌}
 use mathlib.Core.Path.{refl, sym, ◌∙◌, ap}
-use borrow.Author.Tests.{not-true, not-false}
 use Rattle.text.specs.Choice.{all}
 use Rattle.row.specs.Row.{valid_row}
 use Rattle.text.specs.Laws.Arrays.{none_left}

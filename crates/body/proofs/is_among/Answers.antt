@@ -1,4 +1,3 @@
-use Prim.Native.Nat.{◌-◌}
 use mathlib.Core.Path.{refl, sym, ◌∙◌}
 use Rattle.text.specs.Laws.Arrays.{none_left}
 use Rattle.body.proofs.Loops.{among-hit, among-miss, among_none}

@@ -1,4 +1,3 @@
-use Prim.Native.Nat.{◌-◌}
 use mathlib.Core.Path.{◌≡◌, sym, ◌∙◌}
 use native.Mathlib.Omega.{arith}
 use lib.ListN.{length}
@@ -17,7 +16,7 @@ pub returns-then-r-i : goal.returns-then-r-i
 returns-then-r-i c = let r = c.args.r in let l = c.loop-i in sym (l.invariant.1 ∙ latest-none l.t (none_left r.rows r.count l.i (search rules)))
 
 pub loop-i-preserved : goal.loop-i-preserved
-loop-i-preserved c = let r = c.args.r in let n : length r.rows ≡ 8 = search rules in let l = c.loop-i in (search rules, l.invariant.1 ∙ latest-next r.rows r.count l.i (search rules) (omega arith) l.t c.Later-of.result c.Later-of.ensures)
+loop-i-preserved c = let r = c.args.r in let n : length r.rows ≡ 8 = search rules in let l = c.loop-i in (search rules, l.invariant.1 ∙ latest-next r.rows r.count l.i (search rules) (omega arith) l.t c.later_of-t.result c.later_of-t.ensures)
 
 pub returns : goal.returns
 returns c = let r = c.args.r in let n : length r.rows ≡ 8 = search rules in let l = c.loop-i in sym (l.invariant.1 ∙ latest-none l.t (none_left r.rows r.count l.i (omega arith)))

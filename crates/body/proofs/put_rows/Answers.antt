@@ -1,6 +1,5 @@
 use Rattle.text.specs.Laws.Put.{nothing_put, more}
 use native.Mathlib.Omega.{arith}
-use Prim.Native.Nat.{◌-◌}
 use mathlib.Core.Path.{◌≡◌, refl, sym, subst, ◌∙◌}
 use lib.ListN.{length, length-take}
 use lib.Seq.{take_all}
@@ -22,7 +21,7 @@ pub returns-then-r-i : goal.returns-then-r-i
 returns-then-r-i c = let a = c.args in let l = c.loop-i in rw (take_all l.i (rows_of a.r) (rw length-take (omega arith))) at l.invariant.2
 
 pub loop-i-preserved : goal.loop-i-preserved
-loop-i-preserved c = let a = c.args in let l = c.loop-i in let n : length a.r.rows ≡ 8 = search rules in (search rules, c.row_at-behind.auto.0 ∙ c.put-line.auto.0 ∙ l.invariant.1, subst (λ t. Put a.at t a.out.now c.row_at-behind.new.0 c.row_at-behind.result) (sym (text-next a.r.rows a.r.count l.i (search rules) (omega arith))) (more l.invariant.2 (more c.put-line.ensures c.row_at-behind.ensures)))
+loop-i-preserved c = let a = c.args in let l = c.loop-i in let n : length a.r.rows ≡ 8 = search rules in (search rules, c.row_at-behind.auto.out ∙ c.put-line.auto.out ∙ l.invariant.1, subst (λ t. Put a.at t a.out.now c.row_at-behind.new.out c.row_at-behind.result) (sym (text-next a.r.rows a.r.count l.i (search rules) (omega arith))) (more l.invariant.2 (more c.put-line.ensures c.row_at-behind.ensures)))
 
 pub shape_of-out : goal.shape_of-out
 shape_of-out c = c.loop-i.invariant.1

@@ -1,7 +1,4 @@
-use Prim.Native.Nat.{◌-◌}
 use mathlib.Core.Path.{refl, sym, ◌∙◌}
-use mathlib.Core.Bool.{false}
-use mathlib.Core.Logic.{⊎_elim}
 use native.Mathlib.Omega.{arith}
 use Rattle.body.specs.Code.Held.{rows_answer, RowsHeld}
 use Rattle.text.specs.Laws.Arrays.{none_left}
@@ -9,6 +6,7 @@ use Rattle.body.specs.Laws.Kept.{size}
 use Rattle.body.proofs.Loops.{among-hit, among-miss, among_none}
 use Rattle.body.proofs.Steps.{begun, refused, missing, within, blank-line, ninth, stray, time-inside, twice, goes_on, last_line}
 use Rattle.body.proofs.read_rows.Goals as goal
+use Rattle.body.proofs.read_rows.Goals.{then-m-at, else-m-at+then-size-eq0, else-m-at+else-size-eq0+then-count-ge-MOST_ROWS, else-m-at+else-size-eq0+else-count-ge-MOST_ROWS+then-read-ne0, else-m-at+else-size-eq0+else-count-ge-MOST_ROWS+else-read-ne0+then-loop-k-test+then-same_runway, else-m-at+else-size-eq0+else-count-ge-MOST_ROWS+else-read-ne0+else-loop-k-test+then-closed}
 
 pub lines-init : goal.lines-init
 lines-init c = (rw c.blank_row-blank.ensures (begun c.args.m.now), refl)
@@ -50,12 +48,25 @@ pub returns : goal.returns
 returns c =
     let answered : RowsHeld c.args.m.now (rows_answer c.if-m-at.refusal c.if-m-at.told (record { count = c.if-m-at.count; rows = c.if-m-at.rows }) c.if-m-at.closed c.if-m-at.at) = let l = c.lines in
     let s = l.invariant.0 in
-    ⊎_elim (λ w. rw (w.5, w.6) (refused (missing s w.0.taken) _ _ _))
-    (⊎_elim (λ w. rw (w.6, w.7, w.8 ∙ l.invariant.1, w.9, w.10, w.11 ∙ w.5.ensures) (blank-line s w.0.left w.2.ensures w.4.taken))
-    (⊎_elim (λ w. rw (w.10, w.11) (refused (ninth s w.0.left w.2.ensures w.4.left w.5.taken) _ _ _))
-    (⊎_elim (λ w. rw (w.15, w.16) (refused (stray s w.0.left w.2.ensures w.4.left w.5.left w.7.ensures w.9.taken) _ _ _))
-    (⊎_elim (λ w. rw (w.21, w.22) (refused (twice s w.0.left w.2.ensures w.4.left w.5.left w.7.ensures w.9.left
-    (w.11.inv ∙ among-hit l.rows l.count w.11.k w.12.taken (omega (arith, size s.kept)) w.7.result.row (sym w.14.ensures ∙ w.15.taken)) w.16.ensures) _ _ _))
-    (λ w. rw (w.15, w.16, w.17 ∙ w.13.taken, w.18, w.19, w.20 ∙ w.14.ensures) (last_line s w.0.left w.2.ensures w.4.left w.5.left w.7.ensures w.9.left
-    (w.11.inv ∙ among_none w.7.result.row (none_left l.rows l.count w.11.k (omega (arith, w.12.left)))) w.13.taken)))))) c.if-m-at.branch in
+    elim c.if-m-at.branch [
+      | then-m-at w ↦ rw (w.told-is, w.refusal-is) (refused (missing s w.if-m-at.true) _ _ _)
+      | else-m-at+then-size-eq0 w ↦
+          rw (w.rows-is, w.count-is, w.closed-is ∙ l.invariant.1, w.at-is, w.told-is, w.refusal-is ∙ w.empty_line-refusal.ensures)
+          (blank-line s w.if-m-at.false w.first_line-line.ensures w.if-size-eq0.true)
+      | else-m-at+else-size-eq0+then-count-ge-MOST_ROWS w ↦ rw (w.told-is, w.refusal-is) (refused (ninth s w.if-m-at.false w.first_line-line.ensures w.if-size-eq0.false w.if-count-ge-MOST_ROWS.true) _ _ _)
+      | else-m-at+else-size-eq0+else-count-ge-MOST_ROWS+then-read-ne0 w ↦
+          rw (w.told-is, w.refusal-is) (refused (stray s w.if-m-at.false w.first_line-line.ensures w.if-size-eq0.false w.if-count-ge-MOST_ROWS.false w.row_line-read.ensures w.if-read-ne0.true) _ _ _)
+      | else-m-at+else-size-eq0+else-count-ge-MOST_ROWS+else-read-ne0+then-loop-k-test+then-same_runway w ↦
+          rw (w.told-is, w.refusal-is)
+          (refused
+          (twice s w.if-m-at.false w.first_line-line.ensures w.if-size-eq0.false w.if-count-ge-MOST_ROWS.false w.row_line-read.ensures w.if-read-ne0.false
+          (w.loop-k.invariant ∙ among-hit l.rows l.count w.loop-k.k w.loop-k-test.true (omega (arith, size s.kept)) w.row_line-read.result.row (sym w.same_runway.ensures ∙ w.if-same_runway.true))
+          w.spaces-told.ensures)
+          _ _ _)
+      | else-m-at+else-size-eq0+else-count-ge-MOST_ROWS+else-read-ne0+else-loop-k-test+then-closed w ↦
+          rw (w.rows-is, w.count-is, w.closed-is ∙ w.if-closed.true, w.at-is, w.told-is, w.refusal-is ∙ w.last_row-refusal.ensures)
+          (last_line s w.if-m-at.false w.first_line-line.ensures w.if-size-eq0.false w.if-count-ge-MOST_ROWS.false w.row_line-read.ensures w.if-read-ne0.false
+          (w.loop-k.invariant ∙ among_none w.row_line-read.result.row (none_left l.rows l.count w.loop-k.k (omega (arith, w.loop-k-test.false))))
+          w.if-closed.true)
+    ] in
     rw c.rows_answer.ensures answered

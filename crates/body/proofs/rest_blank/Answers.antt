@@ -1,8 +1,7 @@
-use Prim.Native.Nat.{◌≤◌, ◌-◌}
+use Prim.Native.Nat.{◌≤◌}
 use mathlib.Core.Path.{refl, sym, ◌∙◌, ap}
 use native.Mathlib.Omega.{arith}
 use lib.ListN.{length, drop_of_length-le}
-use borrow.Author.Tests.{not-true, not-false}
 use Rattle.text.specs.Choice.{all}
 use Rattle.row.specs.Row.{is_blank_row}
 use Rattle.body.proofs.Loops.{all_yes, all-no}

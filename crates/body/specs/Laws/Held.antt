@@ -1,5 +1,5 @@
 -- The promise of reading the rows leaves no choice.
-use Rattle.std.specs.Prelude.{ℕ, suc, ◌≤◌, ◌≡◌, refl, List, [], cond, Bool, true, false, eqb, length, drop}
+use Rattle.std.specs.Prelude.{ℕ, suc, ◌≡◌, refl, List, [], cond, Bool, true, false, eqb, length, drop}
 use Rattle.std.proofs.Common.{sym, ◌∙◌, ap, length-drop, eqb-true, arith}
 use Rattle.text.specs.Lines.{Cut, cuts, lines_size}
 use Rattle.body.specs.declared.Rows.{Rows}

@@ -1,5 +1,5 @@
 -- Rows kept in their array one after the other.
-use Rattle.std.specs.Prelude.{ℕ, ◌+◌, ◌-◌, ◌<◌, ◌≡◌, refl, List, [], ◌∷◌, ◌++◌, length, take, set}
+use Rattle.std.specs.Prelude.{ℕ, ◌+◌, ◌<◌, ◌≡◌, refl, List, [], ◌∷◌, ◌++◌, length, take, set}
 use Rattle.std.proofs.Common.{sym, ◌∙◌, ap, add-one, arith, length-append, length-take, length-take-le, take-suc-set}
 use Rattle.text.specs.Laws.Arrays.{pad-length, pad-more}
 use Rattle.row.specs.declared.Row.{Row}
