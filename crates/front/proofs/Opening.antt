@@ -61,29 +61,33 @@ into : {A : Type 0} (to : A → Front) {g : Got A} (b : Bool) (v : A) → g ≡ 
 into to true v e = rw e
 into to false v e = rw e
 
--- and the front that it is read into
-module _ (f : Front) (l : List ℕ) where
-  pub fill-addresses : {r : AddressesRead} → r ≡ addresses_answer (whole (read_addresses l)) → fill_line 0 f l ≡ cond r.fits (got (with_addresses f r.addresses) []) misfit
+-- and the front that it is read into, by the arm that the line's number takes
+module _ (f : Front) (l : List ℕ) {k : ℕ} {b : Bool} {g : Front} where
+  pub fill-addresses : {r : AddressesRead} → r ≡ addresses_answer (whole (read_addresses l)) → k ≡ 0 → g ≡ with_addresses f r.addresses → b ≡ r.fits
+      → fill_line k f l ≡ cond b (got g []) misfit
   unfolding fill_line
-  fill-addresses {r} h = into (with_addresses f) r.fits r.addresses (addresses-says (read_addresses l) h)
+  fill-addresses {r} h n p q = rw (n, p, q) (into (with_addresses f) r.fits r.addresses (addresses-says (read_addresses l) h))
 
-  pub fill-filing : {r : FilingRead} → r ≡ filing_answer (whole (read_filing l)) → fill_line 1 f l ≡ cond r.fits (got (with_filing f r.filing) []) misfit
+  pub fill-filing : {r : FilingRead} → r ≡ filing_answer (whole (read_filing l)) → k ≡ 1 → g ≡ with_filing f r.filing → b ≡ r.fits → fill_line k f l ≡ cond b (got g []) misfit
   unfolding fill_line
-  fill-filing {r} h = into (with_filing f) r.fits r.filing (filing-says (read_filing l) h)
+  fill-filing {r} h n p q = rw (n, p, q) (into (with_filing f) r.fits r.filing (filing-says (read_filing l) h))
 
-  pub fill-heading : {r : HeadingRead} → r ≡ heading_answer (whole (read_heading l)) → fill_line 2 f l ≡ cond r.fits (got (with_heading f (record { title = r.title; time = r.time })) []) misfit
+  pub fill-heading : {r : HeadingRead} → r ≡ heading_answer (whole (read_heading l)) → k ≡ 2 → g ≡ with_heading f (record { title = r.title; time = r.time }) → b ≡ r.fits
+      → fill_line k f l ≡ cond b (got g []) misfit
   unfolding fill_line
-  fill-heading {r} h = into (with_heading f) r.fits (record { title = r.title; time = r.time }) (heading-says (read_heading l) h)
+  fill-heading {r} h n p q = rw (n, p, q) (into (with_heading f) r.fits (record { title = r.title; time = r.time }) (heading-says (read_heading l) h))
 
-  pub fill-serial : {r : Found} → Held l (whole (read_serial_line l)) r → fill_line 3 f l ≡ cond r.fits (got (with_serial f r.value) []) misfit
+  pub fill-serial : {r : Found} → Held l (whole (read_serial_line l)) r → k ≡ 3 → g ≡ with_serial f r.value → b ≡ r.fits → fill_line k f l ≡ cond b (got g []) misfit
   unfolding fill_line
-  fill-serial {r} h = into (with_serial f) r.fits r.value (serial-says (read_serial_line l) h)
+  fill-serial {r} h n p q = rw (n, p, q) (into (with_serial f) r.fits r.value (serial-says (read_serial_line l) h))
 
   -- the last of them
-  pub fill-aerodrome : (k : ℕ) → (((Unit {0} × (k ≡ 0 → ⊥)) × (k ≡ 1 → ⊥)) × (k ≡ 2 → ⊥)) × (k ≡ 3 → ⊥) → {r : AerodromeRead} → r ≡ aerodrome_answer (whole (read_aerodrome l))
-      → fill_line k f l ≡ cond r.fits (got (with_aerodrome f r.aerodrome) []) misfit
+  pub fill-aerodrome : {r : AerodromeRead} → r ≡ aerodrome_answer (whole (read_aerodrome l)) → 3 < k → g ≡ with_aerodrome f r.aerodrome → b ≡ r.fits
+      → fill_line k f l ≡ cond b (got g []) misfit
   unfolding fill_line
-  fill-aerodrome k n {r} h = rw (ne_eqb k 0 n.0.0.0.1, ne_eqb k 1 n.0.0.1, ne_eqb k 2 n.0.1, ne_eqb k 3 n.1) (into (with_aerodrome f) r.fits r.aerodrome (aerodrome-says (read_aerodrome l) h))
+  fill-aerodrome {r} h n p q =
+      rw (ne_eqb k 0 (omega arith), ne_eqb k 1 (omega arith), ne_eqb k 2 (omega arith), ne_eqb k 3 (omega arith), p, q)
+      (into (with_aerodrome f) r.fits r.aerodrome (aerodrome-says (read_aerodrome l) h))
 
 -- no line is refused by 0
 refuses : (k : ℕ) → eqb (line_refusal k) 0 ≡ false
@@ -106,7 +110,7 @@ line-missing m at k o h e = rw (one_left k h, drop_of_length-le m e)
 
 -- the line k fits, or does not
 module _ (m : List ℕ) (at : ℕ) (w : at < length m) {n : Line} (e : n ≡ first_line (take (length m - at) (drop at m))) (k : ℕ) (o : Opening) (l : k < front_count) (b : Bool) (g : Front) (h : fill_line k o.front (take (at + n.size - at) (drop at m)) ≡ cond b (got g []) misfit) where
-  pub here : Cut
+  here : Cut
   here = cut (take (at + n.size - at) (drop at m)) (drop (at + n.size) m)
 
   there : cuts (drop at m) ≡ here ∷ cuts (drop (at + n.next) m)
@@ -117,9 +121,14 @@ module _ (m : List ℕ) (at : ℕ) (w : at < length m) {n : Line} (e : n ≡ fir
   unfolding here
   starts = let s : at + n.size - at ≡ n.size = omega arith in rw s (ap (λ k. take n.size (drop at m) ++ k) (sym (drop-drop n.size at m)) ∙ take-append-drop n.size (drop at m))
 
-  pub step-on : b ≡ true → fill_lines (front_count - k) k o (cuts (drop at m)) ≡ fill_lines (front_count - (k + 1)) (k + 1) (kept k here o g) (cuts (drop (at + n.next) m))
+  step-on : b ≡ true → fill_lines (front_count - k) k o (cuts (drop at m)) ≡ fill_lines (front_count - (k + 1)) (k + 1) (kept k here o g) (cuts (drop (at + n.next) m))
   unfolding fill_lines next_line here
   step-on t = rw (one_left k l, there, h, t, add-one k)
+
+  -- so what is left below it is what all lines say
+  pub stepped : b ≡ true → fill_lines (front_count - k) k o (cuts (drop at m)) ≡ fill_lines front_count 0 unopened (cuts m)
+      → (x : Opening) × (x.front ≡ g) × (fill_lines (front_count - (k + 1)) (k + 1) x (cuts (drop (at + n.next) m)) ≡ fill_lines front_count 0 unopened (cuts m))
+  stepped t left = (kept k here o g, refl, sym (step-on t) ∙ left)
 
   pub step-off : b ≡ false → fill_lines (front_count - k) k o (cuts (drop at m)) ≡ refuse (line_refusal k) (drop at m)
   unfolding fill_lines next_line here

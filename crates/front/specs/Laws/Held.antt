@@ -1,10 +1,9 @@
 -- The promise of reading the front leaves no choice.
-use Rattle.std.specs.Prelude.{ℕ, ◌≤◌, ◌≡◌, refl, List, Bool, true, false, eqb, length, drop}
+use Rattle.std.specs.Prelude.{ℕ, ◌≡◌, refl, List, Bool, true, false, eqb, length, drop}
 use Rattle.std.proofs.Common.{sym, ◌∙◌, ap, arith, length-drop, eqb-true}
 use Rattle.text.specs.Lines.{Cut, cuts, lines_size}
 use Rattle.text.specs.Out.{refuse, taken}
 use Rattle.text.specs.Laws.Out.{no-refuse, took, refused-left}
-use Rattle.front.specs.declared.Front.{Front}
 use Rattle.front.specs.declared.FrontRead.{FrontRead}
 use Rattle.front.specs.Code.Front.{front_count, Opening, unopened, fill_lines, no_front, front_answer, FrontHeld}
 

@@ -1,5 +1,5 @@
 -- At the places of 10 and 12 the serial and the time are read, and each is so many bytes before its line's end.
-use Rattle.std.specs.Prelude.{ℕ, ◌+◌, ◌≡◌, refl, List, [], ◌∷◌, ◌++◌, length}
+use Rattle.std.specs.Prelude.{ℕ, ◌+◌, ◌≡◌, refl, List, length}
 use Rattle.std.proofs.Common.{sym, ◌∙◌, ap, length-append, arith}
 use Rattle.text.specs.Piece.{bytes}
 use Rattle.text.specs.Read.{Got, misfit, got, and_then, skip, left_by, whole, read_text, read_seq, read_as, read_gap}

@@ -1,4 +1,3 @@
-use Prim.Native.Nat.{◌-◌}
 use mathlib.Core.Path.{sym, subst}
 use native.Mathlib.Omega.{arith}
 use Rattle.text.specs.Put.{Put}
@@ -27,7 +26,7 @@ loop-k-preserved c =
       search rules,
       search rules,
       search rules,
-      subst (λ c. Put a.at c.before.before.before.before.before.before.before.before.before.before a.out.now c.put_item-behind.new.0 c.put_item-behind.result) (sym (line-next outside a.items l.k (omega (arith, c.loop-k-test.true, c.well_formed))))
+      subst (λ t. Put a.at t a.out.now c.put_item-behind.new.out c.put_item-behind.result) (sym (line-next outside a.items l.k (omega (arith, c.loop-k-test.true, c.well_formed))))
           (more l.invariant.3 (more c.put_parting-start.ensures c.put_item-behind.ensures)),
     )
 

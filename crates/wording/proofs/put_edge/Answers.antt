@@ -1,3 +1,4 @@
+use native.Mathlib.Omega.{arith}
 use Rattle.text.specs.Piece.{spell}
 use Rattle.wording.proofs.Writing.{no_edge}
 use Rattle.wording.proofs.put_edge.Goals as goal
@@ -15,4 +16,4 @@ unfolding spell
 returns-in-3 c = rw c.in-3.is c.put-in-3.ensures
 
 pub returns-in_default : goal.returns-in_default
-returns-in_default c = let n = c.in_default.in_default-own.rest in rw (no_edge c.args.edge n.0.0.1 n.0.1 n.1) c.put-in_default.ensures
+returns-in_default c = rw (no_edge c.args.edge (omega arith) (omega arith) (omega arith)) c.put-in_default.ensures

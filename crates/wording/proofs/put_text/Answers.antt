@@ -1,3 +1,4 @@
+use native.Mathlib.Omega.{arith}
 use borrow.Author.Tests.{ne_eqb}
 use Rattle.text.specs.Piece.{spell}
 use Rattle.items.specs.ItemText.{item_text}
@@ -37,4 +38,7 @@ returns-in-80 c = rw c.in-80.is c.put_poor_taxiways.ensures
 
 pub returns-in_default : goal.returns-in_default
 unfolding item_text
-returns-in_default c = let n = c.in_default.in_default-own.rest in let l = c.args.i.letter in rw (ne_eqb l 73 n.0.0.0.0.0.0.0.1, ne_eqb l 74 n.0.0.0.0.0.0.1, ne_eqb l 75 n.0.0.0.0.0.1, ne_eqb l 76 n.0.0.0.0.1, ne_eqb l 77 n.0.0.0.1, ne_eqb l 78 n.0.0.1, ne_eqb l 79 n.0.1, ne_eqb l 80 n.1) c.put_poor_apron.ensures
+returns-in_default c =
+    let l = c.args.i.letter in
+    rw (ne_eqb l 73 (omega arith), ne_eqb l 74 (omega arith), ne_eqb l 75 (omega arith), ne_eqb l 76 (omega arith), ne_eqb l 77 (omega arith), ne_eqb l 78 (omega arith), ne_eqb l 79 (omega arith), ne_eqb l 80 (omega arith))
+    c.put_poor_apron.ensures
