@@ -1,6 +1,6 @@
 -- Each answer to a report, from what the code has found: i is the place of the row's runway, z and y stand for what lies outside the arrays.
 use Prim.Native.Nat.{ℕ, ◌<◌, ◌≤◌}
-use mathlib.Core.Path.{◌≡◌, refl, sym, subst, ◌∙◌, ap}
+use mathlib.Core.Path.{◌≡◌, sym, subst, ◌∙◌, ap}
 use mathlib.Core.Bool.{true, false}
 use lib.Dec.{eqb}
 use lib.ListN.{get_or}

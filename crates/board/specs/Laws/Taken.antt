@@ -7,7 +7,7 @@ use mathlib.Core.List.{List, [], ◌∷◌, ◌++◌, map, map-append, append_as
 use mathlib.Core.List.{Permᴰ}
 use Rattle.std.proofs.Math.Bool.{true, false}
 use Rattle.std.proofs.Math.ListN.{get_or}
-use Rattle.text.specs.Choice.{◌and◌, all}
+use Rattle.text.specs.Choice.{all}
 use Rattle.text.specs.Arrays.{is_zero}
 use Rattle.text.specs.Laws.Base.{and_i}
 use Rattle.row.specs.declared.Row.{Row}
