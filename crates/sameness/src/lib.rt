@@ -1,6 +1,7 @@
 // Whether two parts of a record are the same, field by field: numbers first, which are cheap.
 
 #![tactic(auto)]
+
 ghost use Rattle.std.specs.Prelude.{◌≡◌};
 ghost use Rattle.text.specs.Choice.{same_all};
 ghost use Rattle.sameness.specs.Same.{same_addresses, same_filing, same_title, same_third, same_row, same_rows, same_numbers, same_item, same_items, same_language};
