@@ -21,7 +21,7 @@ use Rattle.board.specs.Runs.{reports}
 use Rattle.desktext.specs.Desk.{printed, answer_line, shown_rows, answers_text, refused_text, lines_text, desk_text, report_lines, desk_board}
 use Rattle.desktext.specs.declared.Standing.{Standing}
 use Rattle.desktext.specs.declared.State.{State}
-use Rattle.desktext.specs.Pieces.{waiting, keeping, after_line, line_answer, end_answer, start_state, begun, without_return, after_byte, byte_answer}
+use Rattle.desktext.specs.Pieces.{waiting, keeping, line_answer, end_answer, start_state, begun, without_return, after_byte, byte_answer}
 use Rattle.desktext.specs.Pieces.{fed_text, last_standing, last_text, finish_text, pieces_text}
 use Rattle.desktext.specs.Desks.{lines_from, lines_answered}
 use Rattle.desktext.specs.Laws.Desks.{lines-alone, board-alone, owners-stay}

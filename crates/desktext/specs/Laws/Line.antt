@@ -69,6 +69,7 @@ spaced-laws = as-laws (as-laws (seq-laws (count-laws is_space space-inner 0) run
 
 -- a side does not begin with a space
 pub space-no-side : (m : List ℕ) → Head is_space m → head_is is_side m ≡ false
+space-no-side [] h = elim h [ ]
 space-no-side (x ∷ m) h = rw (eqb-true x 32 h)
 
 -- what a line can hold of a runway and its owner
@@ -76,6 +77,7 @@ abbrev Owned : Runway × ℕ → Type 0
 Owned p = Written p.0 × (p.1 < 10 ^ 1)
 
 slash-no-side : (m : List ℕ) → Head (eqb 47) m → head_is is_side m ≡ false
+slash-no-side [] h = elim h [ ]
 slash-no-side (x ∷ m) h = rw (sym (eqb-true 47 x h))
 
 pub owned-laws : Laws Owned owned_pieces read_owned (Head is_space) Any

@@ -7,7 +7,7 @@ use Rattle.std.proofs.Math.Bool.{true, false}
 use Rattle.std.proofs.Math.ListN.{set}
 use Rattle.std.proofs.lemmas.List.{length-replicate, take-append-le}
 use borrow.Author.Tests.{eqb-true, leb-true, leb-false, lt-ltb, le-ltb, ne_eqb}
-use Rattle.text.specs.Choice.{◌and◌, all}
+use Rattle.text.specs.Choice.{all}
 use Rattle.text.specs.Piece.{bytes}
 use Rattle.text.specs.Lines.{longest, push, lines}
 use Rattle.text.specs.Code.Held.{is_unfed}
