@@ -2,7 +2,6 @@
 use Rattle.std.specs.Prelude.{ℕ, ◌≡◌, refl, List, [], ◌∷◌, map, replicate}
 use Prim.Native.String.{String}
 use Rattle.text.specs.Choice.{◌and◌}
-use Rattle.text.specs.Lines as Lines
 use Rattle.text.specs.Piece.{bytes}
 use Rattle.runway.specs.Time.{later}
 use Rattle.row.specs.declared.Row.{Row}
