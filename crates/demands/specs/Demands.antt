@@ -34,6 +34,7 @@ use Rattle.due.specs.declared.Change.{Change}
 use Rattle.due.specs.Change.{no_thirds, change}
 use Rattle.due.specs.Counts.{Counts, Comparable, Due}
 use Rattle.due.specs.Theorems as Changes
+use Rattle.due.proofs.Theorems as Reasons
 use Rattle.rowtext.specs.declared.RowRead.{RowRead}
 use Rattle.rowtext.specs.Reading.{find_row, row_answer}
 use Rattle.rowtext.specs.Laws.Faults.{is_row_number, row_within}
@@ -615,11 +616,11 @@ desk-prints m l ls b xs e o t room p = desk-tells m room p ∙ Desk.desk-prints 
 -- "Given the row shown and a new row, tell for each third whether the change counts": it does for the reasons of `Counts`, and for no other
 pub third-counts : (old new : Row) (a : Change) → a ≡ change old new → (i : ℕ) → i < 3
     → (get_or a.counts i false ≡ true) ↔ (Comparable old new × Counts (third_of old i) (third_of new i))
-third-counts old new a e i h = rw e (Changes.third-exactly old new i h)
+third-counts old new a e i h = rw e (Reasons.third-exactly old new i h)
 
 -- "and for the row whether a new notice is due": "when a third counts or the width differs"
 pub notice-due : (old new : Row) (a : Change) → a ≡ change old new → (a.due ≡ true) ↔ (Comparable old new × Due old new)
-notice-due old new a e = rw e (Changes.due-exactly old new)
+notice-due old new a e = rw e (Reasons.due-exactly old new)
 
 -- "The answer for a row is the same with old and new exchanged"
 pub same-exchanged : (old new : Row) (a b : Change) → a ≡ change old new → b ≡ change new old → a ≡ b
