@@ -79,6 +79,7 @@ use Rattle.board.specs.Laws.Rules.{rules}
 use Rattle.board.specs.Laws.Shows.{shows-one}
 use Rattle.board.specs.Laws.Restore.{opens-anew}
 use Rattle.board.specs.Theorems as Board
+use Rattle.board.proofs.Theorems as Runs
 use Rattle.boardnotice.specs.declared.Details.{Details}
 use Rattle.boardnotice.specs.Writing.{board_record, writing_board, WroteBoard, written_board}
 use Rattle.boardnotice.specs.DeskNotice.{details_of}
@@ -553,7 +554,7 @@ module _ (aerodrome : List ℕ) (count : ℕ) (runways : List Runway) (owners : 
       → Shows (get_or runways i blank_runway) (get_or owners i 0) xs (shown_at c i)
   each-shows {xs} k i l =
       subst (λ c. Shows (get_or runways i blank_runway) (get_or owners i 0) xs (shown_at c i)) (sym (are-reports k))
-      (Board.runway-shows aerodrome count runways owners o.board was-taken xs i l)
+      (Runs.runway-shows aerodrome count runways owners o.board was-taken xs i l)
 
   -- "with none it shows nothing"
   pub none-shows-nothing : {xs : List Sent} {c : Board} → Calls report_of o.board xs c → (i : ℕ) → i < count
@@ -565,7 +566,7 @@ module _ (aerodrome : List ℕ) (count : ℕ) (runways : List Runway) (owners : 
       (first : Calls report_of o.board xs b) (second : Calls report_of o.board ys c) where
     -- leave the same board
     pub same-board : b ≡ c
-    same-board = are-reports first ∙ (Board.order-free aerodrome count runways owners o.board was-taken xs ys moved apart ∙ sym (are-reports second))
+    same-board = are-reports first ∙ (Runs.order-free aerodrome count runways owners o.board was-taken xs ys moved apart ∙ sym (are-reports second))
 
     -- "with the same heading details, items, plain language and buffer length they give the same notice, byte for byte, or the same refusal": `write_board`
     pub same-notice : {d : Details} {i : Items} {l : Language} {x₀ x y₀ y : List ℕ} {v w : Written} → WroteBoard b d i l x₀ x v → WroteBoard c d i l y₀ y w
@@ -577,7 +578,7 @@ module _ (aerodrome : List ℕ) (count : ℕ) (runways : List Runway) (owners : 
   pub isolated : (d : ℕ) {xs ys : List Sent} {b c : Board} (first : Calls report_of o.board xs b) (second : Calls report_of o.board ys c)
       → from d xs ≡ from d ys → (answers_of d first ≡ answers_of d second) × ((i : ℕ) → get_or owners i 0 ≡ d → row_at b i ≡ row_at c i)
   isolated d {xs} {ys} first second same =
-      let (answers, rows) = Board.isolation aerodrome count runways owners o.board was-taken d xs ys same in (
+      let (answers, rows) = Runs.isolation aerodrome count runways owners o.board was-taken d xs ys same in (
         are-answers d first ∙ (answers ∙ sym (are-answers d second)),
         λ i e. ap (λ z. row_at z i) (are-reports first) ∙ (rows i e ∙ ap (λ z. row_at z i) (sym (are-reports second))),
       )
@@ -586,7 +587,7 @@ module _ (aerodrome : List ℕ) (count : ℕ) (runways : List Runway) (owners : 
   -- shown, else that of a row shown, and no row shown is later
   pub time-stored : {xs : List Sent} {c : Board} → Calls report_of o.board xs c → IsLatest c.rows c.latest
   time-stored {xs} k =
-      subst (λ c. IsLatest c.rows c.latest) (sym (are-reports k)) (Board.time-latest aerodrome count runways owners o.board was-taken xs)
+      subst (λ c. IsLatest c.rows c.latest) (sym (are-reports k)) (Runs.time-latest aerodrome count runways owners o.board was-taken xs)
 
 -- of the desk: a line opens a board exactly if it is the text of an aerodrome, runways and owners that opening takes, with that board: `open_line`
 pub opened-by-line : (l : List ℕ) (a : Answer) (b : Board) → a ≡ opening_line l → (a ≡ answer 0 b) ↔ Opens l b
