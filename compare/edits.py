@@ -9,16 +9,17 @@
 In the first two forms an edit changes one numeral by one, one comparison, one truth value, one sign, one letter of a text or one number of a list of bytes.
 
 The first form tries COUNT random ones, at most one at each place. Run it in a copy of the tree, since it edits files in place and
-puts them back. The tree has to prove as it stands, else every edit would seem to be refused: `rt check` is run first.
+puts them back. The tree has to prove as it stands, else every edit would seem to be refused: `rt all check` is run first.
 An edit is tried on its crate, and, where that still proves, on the crates above it in the order of crates.txt.
 
 The second form tries every edit of every definition, a numeral both ways and a text letter by letter, against the laws and the
 tables alone: it writes the tree without its functions and their proofs to DIR, which must be new, checks that, and edits it there. So it is told
 whether a law or a table refuses an edit, whatever the code would say. PART/PARTS, as 1/2 and 2/2, tries a share of them, for several at a time.
+The laws and theorems that stand in proofs/Laws and proofs/Theorems.antt are laws as well: an edit in must-fail/ breaks them.
 
 The third form tries the edits that are written down as compare/edits/CRATE/NAME.edit, all of them or those of the crates and names given. Such a
 file is written as those of crates/CRATE/must-fail/ are: a comment, then a `file:` of src/ or specs/ and pairs of `old:` and `new:` for it, once or
-several times. Run it in a copy of the tree, too; `rt check` of their crates is run first. An edit is tried on its own crate alone.
+several times. Run it in a copy of the tree, too; `rt check` is run in their crates first. An edit is tried on its own crate alone.
 
 The fourth form proves nothing: it only looks whether the `old:` texts of every such file, and of those in crates/*/must-fail/, stand exactly once in their files.
 
@@ -45,7 +46,9 @@ SWAPS = {"eqb": "ltb", "leb": "ltb", "ltb": "leb", "true": "false", "false": "tr
 IN_DEFINITIONS = re.compile(r'"(?P<text>[^"]*)"|(?<![\w₀-₉.])(?<!Type )(?P<number>\d+)(?![\w₀-₉])(?! =)|(?<![\w.-])(?P<word>eqb|leb|ltb|true|false)(?![\w-])')
 IN_CODE = re.compile(r'"(?P<text>[^"]*)"|b\'(?P<byte>[^\\])\'|(?<![\w.])(?P<number>\d+)(?!\w)|(?<= )(?P<word><=|<|==|!=|\+|true|false)(?=[ ;,])')
 # Where a word that an edit brings in comes from, so that the edit is refused for what it says and not for a name that is not in scope.
-HOMES = {"leb": "lib.Dec", "ltb": "lib.Dec", "true": "mathlib.Core.Bool", "false": "mathlib.Core.Bool"}
+HOME = "Rattle.std.specs.Prelude"
+# What the prover says of a text that it cannot read, as it says it of a definition's file.
+UNREAD = re.compile(r"is not in scope|has no field|is no name|operand is missing|expected the end|cannot continue")
 
 
 class End(enum.Enum):
@@ -63,7 +66,8 @@ class Unfit(Exception):
 def crates(root):
     """The crates in their order, with what each uses."""
     lines = (root / "crates.txt").read_text().splitlines()
-    return {name.strip(): uses.split() for name, uses in (line.split(":", 1) for line in lines if ":" in line)}
+    parts = [line.split("#")[0].split(":", 1) for line in lines]
+    return {part[0].split()[0]: part[1].split() for part in parts if len(part) == 2}
 
 
 def definition_lines(path):
@@ -75,10 +79,10 @@ def definition_lines(path):
 
 
 def code_lines(path):
-    """The lines of a file of code without its promises and comments."""
+    """The lines of a file of code without its attributes, promises and comments."""
     for number, line in enumerate(path.read_text().splitlines()):
         code = line.split("//")[0]
-        if not re.match(r"\s*(use|ghost|ensures|requires|mod|pub mod)\b", code) and "fn " not in code and "struct " not in code:
+        if not re.match(r"\s*((use|ghost|ensures|requires|mod|pub mod)\b|#)", code) and "fn " not in code and "struct " not in code:
             yield number, code
 
 
@@ -114,21 +118,24 @@ def changes(match):
     return ['"' + value[:i] + ("X" if value[i] != "X" else "Y") + value[i + 1:] + '"' for i in letters]
 
 
-def first_error(lines):
-    """The first error that a check printed: that of a table before that of a law, and that before that of a function's proof."""
-    errors = [re.sub(r"^.*?/crates/", "", line) for line in lines if "error" in line]
+def first_error(crate, lines):
+    """The first error that a check printed: of a text that cannot be read, else of a table before that of a law, and that before that of a function's proof."""
+    errors = [re.sub(r"^(\./)?(?=(src|specs|proofs)/)", f"{crate}/", line) for line in lines if re.search(r":\d+:\d+: error", line)]
+    unread = [error for error in errors if re.match(r"\w+/(src|specs)/", error) and UNREAD.search(re.sub(r"`[^`]*`", "", error))]
     evaluated = [error for error in errors if re.match(r"\w+/specs/(Tables|LineTables|Edges|Pins|Examples)\b", error)]
-    stated = [error for error in errors if re.match(r"\w+/specs/", error)]
-    return (evaluated or stated or errors or lines[-1:] or ["no word"])[0]
+    stated = [error for error in errors if re.match(r"\w+/(specs|proofs/Laws|proofs/Theorems)\b", error)]
+    return (unread or evaluated or stated or errors or lines[-1:] or ["no word"])[0]
 
 
 def checked(root, crate):
     """How a check of the crate ends, with its first error; the compiler's stands in a file of code, and the prover then says nothing."""
-    ran = subprocess.run(["rt", "dev", crate], cwd=root, capture_output=True, text=True)
+    ran = subprocess.run(["rt", "check"], cwd=root / "crates" / crate, capture_output=True, text=True)
     lines = (ran.stdout + ran.stderr).splitlines()
-    error = first_error(lines)
+    error = first_error(crate, lines)
     if ran.returncode == 0:
         return End.PROVED, ""
+    if ran.returncode == 1 and re.match(r"\w+/(src|specs)/", error) and UNREAD.search(re.sub(r"`[^`]*`", "", error)):
+        return End.NOT_COMPILED, error
     if ran.returncode == 1 and any(line.startswith("logic=not-proved") for line in lines):
         return End.NOT_PROVED, error
     if ran.returncode == 1 and re.match(r"\w+/src/\S+\.rt:\d+:\d+: error", error):
@@ -174,14 +181,25 @@ def rewritten(texts):
             path.write_text(text)
 
 
+def in_scope(lines, word):
+    """The lines of a definition file in which a word of the library is in scope."""
+    brought = [n for n, line in enumerate(lines) if line.startswith("use ")]
+    if any(re.search(rf"[{{,] ?{word}[,}}]", lines[n]) for n in brought):
+        return lines
+    home = next((n for n in brought if lines[n].startswith(f"use {HOME}.{{")), None)
+    if home is None:
+        at = brought[0] if brought else 1
+        return [*lines[:at], f"use {HOME}.{{{word}}}", *lines[at:]]
+    return [*lines[:home], lines[home].replace(f"use {HOME}.{{", f"use {HOME}.{{{word}, ", 1), *lines[home + 1:]]
+
+
 def tried(root, crate, path, number, match, new):
     """Tries one edit, puts the file back and prints its row; whether it was refused."""
     lines = path.read_text().split("\n")
     line = lines[number]
     lines[number] = line[:match.start()] + new + line[match.end():]
-    if new in HOMES and path.suffix == ".antt":
-        home = re.escape(HOMES[new])
-        lines = [re.sub(rf"use {home}\.\{{(?!.*\b{new}\b)", f"use {HOMES[new]}.{{{new}, ", x) for x in lines]
+    if new in SWAPS.values() and path.suffix == ".antt":
+        lines = in_scope(lines, new)
     with rewritten({path: "\n".join(lines)}):
         name, end, error = refusal(root, crate)
     refused, said = judged(end, error, path.suffix == ".rt")
@@ -192,8 +210,10 @@ def tried(root, crate, path, number, match, new):
 
 def must_prove(root, what, *names):
     """Stops where a tree, or the crates named, do not prove before any edit."""
-    if subprocess.run(["rt", "check", *names], cwd=root, stdout=subprocess.DEVNULL).returncode != 0:
-        sys.exit(f"{what} does not prove as it stands")
+    runs = [(["rt", "check"], root / "crates" / name) for name in names] or [(["rt", "all", "check"], root)]
+    for words, place in runs:
+        if subprocess.run(words, cwd=place, stdout=subprocess.DEVNULL).returncode != 0:
+            sys.exit(f"{what} does not prove as it stands")
 
 
 def at_random(kind, count, seed):
@@ -209,14 +229,40 @@ def at_random(kind, count, seed):
 def without_functions(code):
     """A file of code with its types and constants alone."""
     kept, inside = [], False
+    # A group of names is written on one line, so that its functions can be left out.
+    code = re.sub(r"^use [^;]*;", lambda m: " ".join(m[0].split()), code, flags=re.M)
     for line in code.splitlines():
         if inside:
             inside = not line.startswith("}")
         elif re.match(r'(pub )?(extern "C" )?fn ', line):
             inside = True
-        elif not re.match(r"#\[no_mangle\]|ghost use|use \w+::(?!(?:description|refusal);)[a-z_]+;", line):
+        elif line.startswith("use "):
+            kept += without_their_names(line)
+        elif not re.match(r"#\[(unsafe\(no_mangle\)|tactic\b.*)\]|ghost use", line):
             kept.append(line)
     return "\n".join(kept) + "\n"
+
+
+def without_their_names(line):
+    """A `use` line without the functions that it brings, if anything is left of it: a module of constants and what is not all small letters stay."""
+    path, _, last = line.removeprefix("use ").removesuffix(";").rpartition("::")
+    if "{" in line:
+        path, _, last = line.removeprefix("use ").removesuffix(";").partition("::{")
+    names = [name.strip() for name in last.strip("{} ").split(",") if name.strip()]
+    left = [name for name in names if name in ("description", "refusal") or not re.fullmatch(r"[a-z_0-9]+", name)]
+    return [f"use {path}::{{{', '.join(left)}}};"] if left else []
+
+
+def copy_laws(proofs, copy):
+    """Copies the laws that stand in proofs/, which speak of definitions and of no function."""
+    modules = [name for name in ("Laws", "Theorems") if (proofs / f"{name}.antt").is_file()]
+    if modules:
+        copy.mkdir(parents=True)
+        (copy / "Lib.antt").write_text("".join(f"pub mod {name}\n" for name in modules))
+    for name in modules:
+        shutil.copy(proofs / f"{name}.antt", copy)
+        if (proofs / name).is_dir():
+            shutil.copytree(proofs / name, copy / name)
 
 
 def bare_tree(root):
@@ -227,11 +273,12 @@ def bare_tree(root):
         base = pathlib.Path("crates") / crate
         if (ROOT / base / "specs").is_dir():
             shutil.copytree(ROOT / base / "specs", root / base / "specs")
+        copy_laws(ROOT / base / "proofs", root / base / "proofs")
         for path in (ROOT / base / "src").rglob("*.rt"):
             copy = root / path.relative_to(ROOT)
             copy.parent.mkdir(parents=True, exist_ok=True)
             copy.write_text(without_functions(path.read_text()))
-    listed = [line for line in (ROOT / "crates.txt").read_text().splitlines() if (root / "crates" / line.split(":")[0]).is_dir()]
+    listed = [line for line in (ROOT / "crates.txt").read_text().splitlines() if (root / "crates" / (line.split(":")[0].split() or [""])[0]).is_dir()]
     (root / "crates.txt").write_text("\n".join(listed) + "\n")
     must_prove(root, "the tree of definitions, laws and tables alone")
 

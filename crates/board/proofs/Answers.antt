@@ -11,7 +11,8 @@ use Rattle.row.specs.Row.{valid_row, blank_row}
 use Rattle.board.specs.declared.Board.{Board}
 use Rattle.board.specs.Board.{is_desk, valid_board}
 use Rattle.board.specs.Report.{place_for, row_at, owner_at, is_news, refusal}
-use Rattle.board.specs.Laws.Rules.{get_d_any, rules, took, refused-17, refused-23, refused-19, refused-18, refused-22, refused-20, refused-0}
+use Rattle.board.specs.Laws.Rules.{get_d_any, rules, refused-17, refused-23, refused-19, refused-18}
+use Rattle.board.proofs.Laws.Rules.{took, refused-22, refused-20, refused-0}
 
 module _ (b : Board) (d : ℕ) (r : Row) (i : ℕ) (e : i ≡ place_for b r) where
   pub at-17 : valid_board b ≡ false → 17 ≡ refusal b d r

@@ -7,4 +7,3 @@ pub mod Shows
 pub mod Step
 pub mod Demand
 pub mod Restore
-pub mod Taken

@@ -24,7 +24,8 @@ use Rattle.board.specs.declared.Board.{Board}
 use Rattle.boardnotice.specs.declared.Details.{Details}
 use Rattle.board.specs.Board.{reported, valid_board, valid_opening, valid_list, is_aerodrome, blank_board}
 use Rattle.board.specs.Runs.{by_owner, reports, answers_to}
-use Rattle.board.specs.Theorems.{afresh, restores, restores-taken}
+use Rattle.board.specs.Theorems.{afresh}
+use Rattle.board.proofs.Theorems.{restores, restores-taken}
 use Rattle.frontlines.specs.Letters.{is_letters}
 use Rattle.desktext.specs.Desk.{desk_board}
 use Rattle.frontlines.specs.Addresses.{valid_addresses}

@@ -18,7 +18,8 @@ use Rattle.text.specs.Code.Held.{Reached, first_line}
 use Rattle.text.specs.Laws.Base.{true-false, no-misfit}
 use Rattle.text.specs.Laws.Lines.{line-inside, line-place, line-cuts}
 use Rattle.text.specs.Laws.Cuts.{first-cuts}
-use Rattle.text.specs.Laws.Left.{left_there, digits-size, digits-left, skip-more}
+use Rattle.text.specs.Laws.Left.{left_there, digits-size, skip-more}
+use Rattle.text.proofs.Laws.Left.{digits-left}
 use Rattle.text.specs.Laws.Places.{text-on}
 use Rattle.text.specs.Laws.Out.{Within, stopped, Any}
 use Rattle.runway.specs.Runway.{read_runway}

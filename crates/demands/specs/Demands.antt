@@ -34,6 +34,7 @@ use Rattle.due.specs.declared.Change.{Change}
 use Rattle.due.specs.Change.{no_thirds, change}
 use Rattle.due.specs.Counts.{Counts, Comparable, Due}
 use Rattle.due.specs.Theorems as Changes
+use Rattle.due.proofs.Theorems as Reasons
 use Rattle.rowtext.specs.declared.RowRead.{RowRead}
 use Rattle.rowtext.specs.Reading.{find_row, row_answer}
 use Rattle.rowtext.specs.Laws.Faults.{is_row_number, row_within}
@@ -78,6 +79,7 @@ use Rattle.board.specs.Laws.Rules.{rules}
 use Rattle.board.specs.Laws.Shows.{shows-one}
 use Rattle.board.specs.Laws.Restore.{opens-anew}
 use Rattle.board.specs.Theorems as Board
+use Rattle.board.proofs.Theorems as Runs
 use Rattle.boardnotice.specs.declared.Details.{Details}
 use Rattle.boardnotice.specs.Writing.{board_record, writing_board, WroteBoard, written_board}
 use Rattle.boardnotice.specs.DeskNotice.{details_of}
@@ -552,7 +554,7 @@ module _ (aerodrome : List ℕ) (count : ℕ) (runways : List Runway) (owners : 
       → Shows (get_or runways i blank_runway) (get_or owners i 0) xs (shown_at c i)
   each-shows {xs} k i l =
       subst (λ c. Shows (get_or runways i blank_runway) (get_or owners i 0) xs (shown_at c i)) (sym (are-reports k))
-      (Board.runway-shows aerodrome count runways owners o.board was-taken xs i l)
+      (Runs.runway-shows aerodrome count runways owners o.board was-taken xs i l)
 
   -- "with none it shows nothing"
   pub none-shows-nothing : {xs : List Sent} {c : Board} → Calls report_of o.board xs c → (i : ℕ) → i < count
@@ -564,7 +566,7 @@ module _ (aerodrome : List ℕ) (count : ℕ) (runways : List Runway) (owners : 
       (first : Calls report_of o.board xs b) (second : Calls report_of o.board ys c) where
     -- leave the same board
     pub same-board : b ≡ c
-    same-board = are-reports first ∙ (Board.order-free aerodrome count runways owners o.board was-taken xs ys moved apart ∙ sym (are-reports second))
+    same-board = are-reports first ∙ (Runs.order-free aerodrome count runways owners o.board was-taken xs ys moved apart ∙ sym (are-reports second))
 
     -- "with the same heading details, items, plain language and buffer length they give the same notice, byte for byte, or the same refusal": `write_board`
     pub same-notice : {d : Details} {i : Items} {l : Language} {x₀ x y₀ y : List ℕ} {v w : Written} → WroteBoard b d i l x₀ x v → WroteBoard c d i l y₀ y w
@@ -576,7 +578,7 @@ module _ (aerodrome : List ℕ) (count : ℕ) (runways : List Runway) (owners : 
   pub isolated : (d : ℕ) {xs ys : List Sent} {b c : Board} (first : Calls report_of o.board xs b) (second : Calls report_of o.board ys c)
       → from d xs ≡ from d ys → (answers_of d first ≡ answers_of d second) × ((i : ℕ) → get_or owners i 0 ≡ d → row_at b i ≡ row_at c i)
   isolated d {xs} {ys} first second same =
-      let (answers, rows) = Board.isolation aerodrome count runways owners o.board was-taken d xs ys same in (
+      let (answers, rows) = Runs.isolation aerodrome count runways owners o.board was-taken d xs ys same in (
         are-answers d first ∙ (answers ∙ sym (are-answers d second)),
         λ i e. ap (λ z. row_at z i) (are-reports first) ∙ (rows i e ∙ ap (λ z. row_at z i) (sym (are-reports second))),
       )
@@ -585,7 +587,7 @@ module _ (aerodrome : List ℕ) (count : ℕ) (runways : List Runway) (owners : 
   -- shown, else that of a row shown, and no row shown is later
   pub time-stored : {xs : List Sent} {c : Board} → Calls report_of o.board xs c → IsLatest c.rows c.latest
   time-stored {xs} k =
-      subst (λ c. IsLatest c.rows c.latest) (sym (are-reports k)) (Board.time-latest aerodrome count runways owners o.board was-taken xs)
+      subst (λ c. IsLatest c.rows c.latest) (sym (are-reports k)) (Runs.time-latest aerodrome count runways owners o.board was-taken xs)
 
 -- of the desk: a line opens a board exactly if it is the text of an aerodrome, runways and owners that opening takes, with that board: `open_line`
 pub opened-by-line : (l : List ℕ) (a : Answer) (b : Board) → a ≡ opening_line l → (a ≡ answer 0 b) ↔ Opens l b
@@ -615,11 +617,11 @@ desk-prints m l ls b xs e o t room p = desk-tells m room p ∙ Desk.desk-prints 
 -- "Given the row shown and a new row, tell for each third whether the change counts": it does for the reasons of `Counts`, and for no other
 pub third-counts : (old new : Row) (a : Change) → a ≡ change old new → (i : ℕ) → i < 3
     → (get_or a.counts i false ≡ true) ↔ (Comparable old new × Counts (third_of old i) (third_of new i))
-third-counts old new a e i h = rw e (Changes.third-exactly old new i h)
+third-counts old new a e i h = rw e (Reasons.third-exactly old new i h)
 
 -- "and for the row whether a new notice is due": "when a third counts or the width differs"
 pub notice-due : (old new : Row) (a : Change) → a ≡ change old new → (a.due ≡ true) ↔ (Comparable old new × Due old new)
-notice-due old new a e = rw e (Changes.due-exactly old new)
+notice-due old new a e = rw e (Reasons.due-exactly old new)
 
 -- "The answer for a row is the same with old and new exchanged"
 pub same-exchanged : (old new : Row) (a b : Change) → a ≡ change old new → b ≡ change new old → a ≡ b

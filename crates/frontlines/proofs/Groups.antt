@@ -17,7 +17,7 @@ use Rattle.text.specs.Code.Held.{Spanned, Held, is_got}
 use Rattle.text.specs.declared.Found.{Found}
 use Rattle.text.specs.Laws.Base.{true-false}
 use Rattle.text.specs.Laws.Held.{held-text, part-all}
-use Rattle.text.specs.Laws.Combine.{gap-laws}
+use Rattle.text.proofs.Laws.Combine.{gap-laws}
 use Rattle.frontlines.specs.Letters.{read_letters, is_letters}
 use Rattle.frontlines.specs.Laws.Letters.{letters-long, letters-laws, letter-no-space}
 use Rattle.text.specs.declared.Span.{Span}

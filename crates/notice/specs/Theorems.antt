@@ -8,8 +8,9 @@ use Rattle.text.specs.Lines.{longest, cuts, ended}
 use Rattle.text.specs.Choice.{◌and◌}
 use Rattle.text.specs.Laws.Base.{true-false}
 use Rattle.text.specs.Laws.Arrays.{take-front}
-use Rattle.text.specs.Laws.Typing.{canonical-typed}
-use Rattle.text.specs.Laws.Lines.{Tells, lines-sound, lines-complete}
+use Rattle.text.proofs.Laws.Typing.{canonical-typed}
+use Rattle.text.specs.Laws.Lines.{Tells, lines-sound}
+use Rattle.text.proofs.Laws.Lines.{lines-complete}
 use Rattle.text.specs.Laws.Left.{left-place}
 use Rattle.text.specs.Laws.Cuts.{cuts-text, cuts-ends}
 use Rattle.text.specs.Laws.Out.{Within, stopped, Any, is_number, number-range}

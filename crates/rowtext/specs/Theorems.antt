@@ -9,7 +9,7 @@ use Rattle.text.specs.Laws.Base.{space_next, and-1, and-2}
 use Rattle.text.specs.Laws.Left.{left-place}
 use Rattle.text.specs.Laws.Lines.{whole-sound, whole-complete}
 use Rattle.text.specs.Laws.Out.{Within, stopped, Any, no-refuse, took}
-use Rattle.text.specs.Laws.Typing.{canonical-typed}
+use Rattle.text.proofs.Laws.Typing.{canonical-typed}
 use Rattle.row.specs.Row.{blank_row, valid_row}
 use Rattle.rowtext.specs.Text.{row_pieces}
 use Rattle.rowtext.specs.Reading.{find_row, row_answer}

@@ -1,23 +1,21 @@
 -- The rules are kept: opening makes them hold, no report breaks them or alters the aerodrome, the list and its owners.
-use Rattle.std.specs.Prelude.{ℕ, zero, suc, ◌<◌, ◌≤◌, ◌≡◌, refl, List, [], ◌∷◌, cond, Bool, true, false, eqb, ltb, length, take, get_or, set, replicate}
-use Rattle.std.proofs.Common.{sym, subst, ◌∙◌, ap, length-take, length-set, get_or-take, arith}
+use Rattle.std.specs.Prelude.{ℕ, zero, suc, ◌<◌, ◌≤◌, ◌≡◌, refl, List, [], ◌∷◌, cond, Bool, true, false, eqb, ltb, length, take, get_or, replicate}
+use Rattle.std.proofs.Common.{sym, subst, ◌∙◌, ap, length-take, get_or-take, arith}
 use borrow.Author.Tests.{eqb-true, eq-eqb, ne_eqb, leb-true, ltb-true, lt-ltb, le-ltb}
 use Rattle.std.proofs.Math.Decide.{dec_lt}
 use Rattle.text.specs.Choice.{◌and◌, all}
-use Rattle.text.specs.Laws.Base.{true-false, and-1, and-2, and_i}
+use Rattle.text.specs.Laws.Base.{and-1, and-2, and_i}
 use Rattle.text.specs.Laws.Arrays.{all_in}
 use Rattle.row.specs.declared.Row.{Row}
 use Rattle.row.specs.Row.{valid_row, blank_row, is_blank_row}
-use Rattle.text.specs.Refusals.{invalid_row, wrong_board, not_on_board, not_later, others_runway, no_desk}
+use Rattle.text.specs.Refusals.{invalid_row, wrong_board, not_on_board, no_desk}
 use Rattle.board.specs.declared.Runway.{Runway}
 use Rattle.board.specs.declared.Board.{Board}
 use Rattle.board.specs.Board.{blank_runway, comes_before, rises, rising, valid_list, names, fits_place, fit_places, valid_places, runways_of, no_rows}
 use Rattle.board.specs.Board.{is_desk, valid_owners, latest_shown, valid_opening, valid_board, fresh}
-use Rattle.board.specs.Report.{place_of, place_for, row_at, owner_at, is_news, refusal, newest, stored, report}
-use Rattle.board.specs.declared.Sent.{Sent}
-use Rattle.board.specs.Runs.{reports}
+use Rattle.board.specs.Report.{place_of, place_for, row_at, owner_at, is_news, refusal, stored, report}
 use Rattle.board.specs.Laws.Rows.{blank-blank, valid-not-blank}
-use Rattle.board.specs.Laws.Latest.{Good, blank, valid, Goods, latest-set, none-latest}
+use Rattle.board.specs.Laws.Latest.{Good, blank, valid, Goods, none-latest}
 
 -- an element within an array does not depend on what stands for one outside
 pub get_d_any : {A : Type 0} (d e : A) (l : List A) (i : ℕ) → i < length l → get_or l i d ≡ get_or l i e
@@ -45,14 +43,6 @@ fit-zeros [] zero = refl
 fit-zeros [] (suc n) = and_i blank-blank (fit-zeros [] n)
 fit-zeros (w ∷ ws) zero = refl
 fit-zeros (w ∷ ws) (suc n) = and_i (fits-blank w) (fit-zeros ws n)
-
-fit-set : (d : Runway) (ws : List Runway) (rs : List Row) (i : ℕ) (r : Row) → fit_places ws rs ≡ true → i < length ws → fits_place (get_or ws i d) r ≡ true
-    → fit_places ws (set rs i r) ≡ true
-unfolding fit_places
-fit-set d [] rs i r h l f = absurd (omega arith)
-fit-set d (w ∷ ws) [] i r h l f = refl
-fit-set d (w ∷ ws) (s ∷ rs) zero r h l f = and_i f (and-2 _ _ h)
-fit-set d (w ∷ ws) (s ∷ rs) (suc i) r h l f = and_i (and-1 _ _ h) (fit-set d ws rs i r (and-2 _ _ h) (omega arith) f)
 
 pub fit_at : (d : Runway) (ws : List Runway) (rs : List Row) (i : ℕ) → fit_places ws rs ≡ true → i < length ws
     → fits_place (get_or ws i d) (get_or rs i blank_row) ≡ true
@@ -224,20 +214,6 @@ module _ (b : Board) (d : ℕ) (r : Row) where
         unfolding refusal
         refused-18 h = rw (v, k, g, le-ltb (place_for b r) b.count h)
 
-        module _ (h : place_for b r < b.count) where
-          pub refused-22 : eqb d (owner_at b (place_for b r)) ≡ false → refusal b d r ≡ others_runway
-          unfolding refusal
-          refused-22 o = rw (v, k, g, lt-ltb (place_for b r) b.count h, o)
-
-          module _ (o : eqb d (owner_at b (place_for b r)) ≡ true) where
-            pub refused-20 : is_news r (row_at b (place_for b r)) ≡ false → refusal b d r ≡ not_later
-            unfolding refusal
-            refused-20 n = rw (v, k, g, lt-ltb (place_for b r) b.count h, o, n)
-
-            pub refused-0 : is_news r (row_at b (place_for b r)) ≡ true → refusal b d r ≡ 0
-            unfolding refusal
-            refused-0 n = rw (v, k, g, lt-ltb (place_for b r) b.count h, o, n)
-
 -- a report is taken exactly if no test fails
 abbrev pub takes : Board → ℕ → Row → Bool
 takes b d r = eqb (refusal b d r) 0
@@ -249,23 +225,6 @@ pub record Took (b : Board) (d : ℕ) (r : Row) : Type 0 where
   pub place : place_for b r < b.count
   pub owner : d ≡ owner_at b (place_for b r)
   pub news : is_news r (row_at b (place_for b r)) ≡ true
-
-pub took : (b : Board) (d : ℕ) (r : Row) → takes b d r ≡ true → Took b d r
-unfolding refusal
-took b d r = go (valid_board b) refl (is_desk d) (valid_row r) refl (ltb (place_for b r) b.count) refl (eqb d (owner_at b (place_for b r))) refl
-    (is_news r (row_at b (place_for b r))) refl
-  where
-    go : (x : Bool) → valid_board b ≡ x → (y z : Bool) → valid_row r ≡ z → (p : Bool) → ltb (place_for b r) b.count ≡ p → (o : Bool)
-        → eqb d (owner_at b (place_for b r)) ≡ o → (n : Bool) → is_news r (row_at b (place_for b r)) ≡ n
-        → eqb (cond x (cond y (cond z (cond p (cond o (cond n 0 not_later) others_runway) not_on_board) invalid_row) no_desk) wrong_board) 0 ≡ true → Took b d r
-    go false e₁ y z e₂ p e₃ o e₄ n e₅ h = true-false (sym h)
-    go true e₁ false z e₂ p e₃ o e₄ n e₅ h = true-false (sym h)
-    go true e₁ true false e₂ p e₃ o e₄ n e₅ h = true-false (sym h)
-    go true e₁ true true e₂ false e₃ o e₄ n e₅ h = true-false (sym h)
-    go true e₁ true true e₂ true e₃ false e₄ n e₅ h = true-false (sym h)
-    go true e₁ true true e₂ true e₃ true e₄ false e₅ h = true-false (sym h)
-    go true e₁ true true e₂ true e₃ true e₄ true e₅ h =
-        record { good = e₁; valid = e₂; place = ltb-true (place_for b r) b.count e₃; owner = eqb-true d (owner_at b (place_for b r)) e₄; news = e₅ }
 
 -- it names the runway of its place
 pub took-names : (b : Board) (d : ℕ) (r : Row) → Took b d r → names r (get_or (runways_of b) (place_for b r) blank_runway) ≡ true
@@ -279,37 +238,12 @@ pub report-board : (b : Board) (d : ℕ) (r : Row) → (report b d r).board ≡ 
 unfolding report
 report-board b d r = refl
 
-pub stored-valid : (b : Board) (d : ℕ) (r : Row) → Took b d r → valid_board (stored b (place_for b r) r) ≡ true
-unfolding valid_board valid_opening valid_places
-stored-valid b d r t =
-    let k = rules b t.good in
-    let u = used b k in
-    let p = t.place in
-    let f = fits-valid (get_or (runways_of b) (place_for b r) blank_runway) r t.valid (took-names b d r t) in
-    let few = k.few in
-    let high = k.high in
-    let rows = set b.rows (place_for b r) r in
-    let time = latest-set b.rows (place_for b r) r (goods (runways_of b) b.rows k.fit) (omega arith) t.valid t.news in
-    and_i (and_i k.list k.owned) (and_i (and_i (eq-eqb (length rows) 8 (length-set b.rows (place_for b r) r ∙ k.high))
-    (fit-set blank_runway (runways_of b) b.rows (place_for b r) r k.fit (omega arith) f))
-    (eq-eqb (newest b.latest r.time) (latest_shown rows) (ap (λ s. newest s r.time) k.latest ∙ sym time)))
-
-pub report-valid : (b : Board) (d : ℕ) (r : Row) → valid_board b ≡ true → valid_board (report b d r).board ≡ true
-report-valid b d r v = subst (λ c. valid_board c ≡ true) (sym (report-board b d r)) (go (takes b d r) refl)
-  where
-    go : (t : Bool) → takes b d r ≡ t → valid_board (cond t (stored b (place_for b r) r) b) ≡ true
-    go true e = stored-valid b d r (took b d r e)
-    go false e = v
-
 -- the aerodrome, the list and the owners stay
 pub record SameList (b c : Board) : Type 0 where
   pub aerodrome : c.aerodrome ≡ b.aerodrome
   pub count : c.count ≡ b.count
   pub runways : c.runways ≡ b.runways
   pub owners : c.owners ≡ b.owners
-
-same_self : (b : Board) → SameList b b
-same_self b = record { aerodrome = refl; count = refl; runways = refl; owners = refl }
 
 pub same-trans : {b c e : Board} → SameList b c → SameList c e → SameList b e
 same-trans x y = record {
@@ -321,20 +255,3 @@ same-trans x y = record {
 
 pub same-sym : {b c : Board} → SameList b c → SameList c b
 same-sym x = record { aerodrome = sym x.aerodrome; count = sym x.count; runways = sym x.runways; owners = sym x.owners }
-
-pub report-list : (b : Board) (d : ℕ) (r : Row) → SameList b (report b d r).board
-report-list b d r = subst (SameList b) (sym (report-board b d r)) (go (takes b d r))
-  where
-    go : (t : Bool) → SameList b (cond t (stored b (place_for b r) r) b)
-    go true = record { aerodrome = refl; count = refl; runways = refl; owners = refl }
-    go false = same_self b
-
-pub reports-valid : (b : Board) (xs : List Sent) → valid_board b ≡ true → valid_board (reports b xs) ≡ true
-unfolding reports
-reports-valid b [] v = v
-reports-valid b (x ∷ xs) v = reports-valid (report b x.desk x.row).board xs (report-valid b x.desk x.row v)
-
-pub reports-list : (b : Board) (xs : List Sent) → SameList b (reports b xs)
-unfolding reports
-reports-list b [] = same_self b
-reports-list b (x ∷ xs) = same-trans (report-list b x.desk x.row) (reports-list (report b x.desk x.row).board xs)

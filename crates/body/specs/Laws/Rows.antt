@@ -22,13 +22,15 @@ use Rattle.text.specs.Out.{Out, refuse, taken, next, before, at_end, After, fini
 use Rattle.body.specs.Rows.{is_among, new_runways, Block, block, runway_on, read_rows}
 use Rattle.text.specs.Laws.Out.{no-refuse, took, next-took, before-took, end-took, Within, stopped, passed, Any, cond-within, next-within}
 use Rattle.text.specs.Laws.Out.{is_number, end-within, EndsAfter}
-use Rattle.text.specs.Laws.Left.{Left, left-trans, left-none, left-append, left_by_lem, skip-left, laws-left}
+use Rattle.text.specs.Laws.Left.{Left, left-trans, left-none, left-append, left_by_lem, skip-left}
+use Rattle.text.proofs.Laws.Left.{laws-left}
 use Rattle.text.specs.Laws.Numbers.{digits-laws}
 use Rattle.text.specs.Laws.Cuts.{Ends}
 use Rattle.text.specs.Laws.Cuts as Cuts
 use Rattle.text.specs.Laws.Places.{text-on}
 use Rattle.text.specs.Laws.Told.{Follows, closed-tells, open-tells, Told, last_line, one_line, told, told-some, Tail, nothing, something, append-some}
-use Rattle.text.specs.Laws.Told.{opened-closed, opened-open, cutting, no-cuts}
+use Rattle.text.specs.Laws.Told.{opened-closed, cutting, no-cuts}
+use Rattle.text.proofs.Laws.Told.{opened-open}
 
 -- the rows that were read behind those seen
 pub record Read (n : ℕ) (seen : List Row) (cs : List Cut) (b : Block) : Type 0 where

@@ -15,8 +15,9 @@ use Rattle.board.specs.declared.Board.{Board}
 use Rattle.board.specs.declared.Answer.{Answer}
 use Rattle.board.specs.Board.{answer}
 use Rattle.board.specs.Report.{report}
-use Rattle.board.specs.Laws.Rules.{reports-list}
-use Rattle.board.specs.Laws.Alone.{Alike, refusal-alike, step-own, step_other}
+use Rattle.board.proofs.Laws.Rules.{reports-list}
+use Rattle.board.specs.Laws.Alone.{Alike}
+use Rattle.board.proofs.Laws.Alone.{refusal-alike, step-own, step_other}
 use Rattle.desktext.specs.Line.{read_sender, report_read, report_started, report_line}
 use Rattle.desktext.specs.Desk.{report_lines}
 use Rattle.desktext.specs.Laws.Desk.{lines-tell, lines-report}

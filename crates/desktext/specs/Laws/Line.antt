@@ -14,7 +14,8 @@ use Rattle.text.specs.Read.{Got, misfit, got, whole, read_as}
 use Rattle.text.specs.Arrays.{is_zero, pad}
 use Rattle.text.specs.Laws.Base.{Laws, Head, Any, inner, inline, and-1, and-2}
 use Rattle.text.specs.Laws.Held.{Told, told-one}
-use Rattle.text.specs.Laws.Combine.{seq-laws, as-laws, after-laws, loosen}
+use Rattle.text.specs.Laws.Combine.{seq-laws, as-laws, loosen}
+use Rattle.text.proofs.Laws.Combine.{after-laws}
 use Rattle.text.specs.Laws.Names.{all-at, count-laws}
 use Rattle.text.specs.Laws.Numbers.{digits-laws}
 use Rattle.text.specs.Laws.Many.{Every, many-laws}

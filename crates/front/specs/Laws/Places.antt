@@ -6,10 +6,11 @@ use Rattle.text.specs.Read.{Got, misfit, got, and_then, skip, left_by, whole, re
 use Rattle.text.specs.Numbers.{read_digits}
 use Rattle.text.specs.Lines.{Cut, cut, text, onward}
 use Rattle.text.specs.Laws.Base.{then-got, no-misfit, carry}
-use Rattle.text.specs.Laws.Combine.{gap-laws}
+use Rattle.text.proofs.Laws.Combine.{gap-laws}
 use Rattle.text.specs.Laws.Numbers.{digits-laws}
 use Rattle.text.specs.Laws.Lines.{whole-got}
-use Rattle.text.specs.Laws.Left.{Left, left-trans, left-append, skip-left, laws-left, left_by_lem, seq-left, text-left, gap-skip, if-got, digits-size}
+use Rattle.text.specs.Laws.Left.{Left, left-trans, left-append, skip-left, left_by_lem, seq-left, gap-skip, if-got, digits-size}
+use Rattle.text.proofs.Laws.Left.{laws-left, text-left}
 use Rattle.runway.specs.Time.{real_time}
 use Rattle.frontlines.specs.Heading.{Heading, aerodrome_size, is_serial, read_serial, read_time, read_designator, make_heading, read_heading, read_serial_line}
 use Rattle.frontlines.specs.Letters.{read_letters}

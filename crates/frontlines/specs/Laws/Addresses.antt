@@ -10,8 +10,10 @@ use Rattle.text.specs.Read.{misfit, read_text}
 use Rattle.text.specs.Names.{is_letter}
 use Rattle.text.specs.Arrays.{pad, is_zero, flat}
 use Rattle.text.specs.Laws.Base.{Laws, Head, Any, inline, true-false, and-1, and-2, and_i}
-use Rattle.text.specs.Laws.Combine.{Gap, seq-laws, if-laws, gap-laws, as-laws, loosen}
-use Rattle.text.specs.Laws.Names.{table-laws, good}
+use Rattle.text.specs.Laws.Combine.{Gap, seq-laws, if-laws, as-laws, loosen}
+use Rattle.text.proofs.Laws.Combine.{gap-laws}
+use Rattle.text.specs.Laws.Names.{good}
+use Rattle.text.proofs.Laws.Names.{table-laws}
 use Rattle.text.specs.Laws.Many.{Every, many-laws, every-all, all-every}
 use Rattle.text.specs.Laws.Arrays.{pad-length, replicate-zeros, wide, slots-flat, past-flat, flat-length, slots-back, slots_length}
 use Rattle.text.specs.Laws.Sizes.{size, cons-size, append-size, spell-size, verbatim-size, all-size, name-size}

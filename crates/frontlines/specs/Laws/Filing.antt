@@ -3,7 +3,8 @@ use Rattle.std.specs.Prelude.{ℕ, ◌/◌, ◌^◌, ◌<◌, ◌≤◌, ◌≡�
 use Rattle.std.proofs.Common.{arith, leb-true}
 use Rattle.text.specs.Numbers.{is_digit}
 use Rattle.text.specs.Laws.Base.{Laws, Head, and-1, and-2, and_i}
-use Rattle.text.specs.Laws.Combine.{seq-laws, if-laws, gap-laws, as-laws, loosen}
+use Rattle.text.specs.Laws.Combine.{seq-laws, if-laws, as-laws, loosen}
+use Rattle.text.proofs.Laws.Combine.{gap-laws}
 use Rattle.text.specs.Laws.Numbers.{digits-laws}
 use Rattle.text.specs.Laws.Sizes.{size, cons-size, append-size, digits-size, verbatim-size}
 use Rattle.text.specs.Laws.Lines.{Ends}

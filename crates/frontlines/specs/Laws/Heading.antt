@@ -6,7 +6,8 @@ use Rattle.text.specs.Piece.{bytes, spell, verbatim}
 use Rattle.text.specs.Names.{is_letter}
 use Rattle.text.specs.Numbers.{is_digit, digits}
 use Rattle.text.specs.Laws.Base.{Laws, Head, Any, inline, solid, not-space, and-1, and-2, and_i}
-use Rattle.text.specs.Laws.Combine.{seq-laws, if-laws, gap-laws, after-laws, as-laws, revalid, loosen}
+use Rattle.text.specs.Laws.Combine.{seq-laws, if-laws, as-laws, revalid, loosen}
+use Rattle.text.proofs.Laws.Combine.{gap-laws, after-laws}
 use Rattle.text.specs.Laws.Numbers.{digits-laws}
 use Rattle.text.specs.Laws.Sizes.{size, cons-size, append-size, digits-size, spell-size, verbatim-size}
 use Rattle.text.specs.Laws.Lines.{Ends}

@@ -8,9 +8,11 @@ use Rattle.text.specs.Read.{misfit, skip, read_text, read_gap, read_if}
 use Rattle.text.specs.Names.{is_letter, is_name, run, read_run, read_name}
 use Rattle.text.specs.Numbers.{is_digit, digits, number}
 use Rattle.text.specs.Laws.Base.{Laws, Head, Any, inline, true-false, and-1, and_l, and_r, then-got, guard-got, head-not, not-space}
-use Rattle.text.specs.Laws.Combine.{seq-laws, bind-laws, gap-laws, Gap, before-laws, made-laws, if-laws, loosen, restart, nothing-laws}
+use Rattle.text.specs.Laws.Combine.{seq-laws, bind-laws, Gap, made-laws, if-laws, loosen, restart, nothing-laws}
+use Rattle.text.proofs.Laws.Combine.{gap-laws, before-laws}
 use Rattle.text.specs.Laws.Numbers.{number-laws, digits-laws}
-use Rattle.text.specs.Laws.Names.{table-laws, name-laws, good, word_on, word_next, on-misfit, run-laws, name-inner}
+use Rattle.text.specs.Laws.Names.{good, word_on, word_next, on-misfit, run-laws, name-inner}
+use Rattle.text.proofs.Laws.Names.{table-laws, name-laws}
 use Rattle.text.specs.Laws.Many.{Every, every-at, many-laws}
 use Rattle.runway.specs.Runway.{is_side, runway_pieces}
 use Rattle.runway.specs.Laws.Runway.{runway-laws}

@@ -11,8 +11,10 @@ use Rattle.text.specs.Piece.{Piece, bytes, spell}
 use Rattle.text.specs.Names.{is_letter, is_name, run}
 use Rattle.text.specs.Arrays.{pad, is_zero, slots, past_slots, flat}
 use Rattle.text.specs.Laws.Base.{Laws, Head, Any, inline, true-false, and-1, and-2, and_i, below, below_at}
-use Rattle.text.specs.Laws.Combine.{bind-laws, before-laws, made-laws, if-laws, loosen, relay, revalid}
-use Rattle.text.specs.Laws.Names.{table-laws, good}
+use Rattle.text.specs.Laws.Combine.{bind-laws, made-laws, if-laws, loosen, relay, revalid}
+use Rattle.text.proofs.Laws.Combine.{before-laws}
+use Rattle.text.specs.Laws.Names.{good}
+use Rattle.text.proofs.Laws.Names.{table-laws}
 use Rattle.text.specs.Laws.Many.{every-at}
 use Rattle.text.specs.Laws.Sizes.{run-size}
 use Rattle.text.specs.Laws.Runs.{run_in}

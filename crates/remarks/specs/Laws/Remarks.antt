@@ -22,7 +22,8 @@ use Rattle.text.specs.Laws.Left.{left-none}
 use Rattle.text.specs.Laws.Cuts.{Ends}
 use Rattle.text.specs.Laws.Cuts as Cuts
 use Rattle.text.specs.Laws.Told.{Follows, closed-tells, open-tells, Told, last_line, one_line, told, told-some, Tail, nothing, something, opened-closed}
-use Rattle.text.specs.Laws.Told.{opened-open, cutting, no-cuts}
+use Rattle.text.specs.Laws.Told.{cutting, no-cuts}
+use Rattle.text.proofs.Laws.Told.{opened-open}
 
 pub record Remarked (after : After) (x : Remarks) : Type 0 where
   pub items : valid_items x.items ≡ true

@@ -10,7 +10,8 @@ use Rattle.text.specs.Read.{Got, misfit, got, guard, and_then, skip}
 use Rattle.text.specs.Out.{Out}
 use Rattle.text.specs.Refusals.{no_row, wrong_runway, wrong_codes, wrong_coverage_or_depth, wrong_descriptions, wrong_width}
 use Rattle.text.specs.Laws.Base.{no-misfit, guard-got, and-1}
-use Rattle.text.specs.Laws.Left.{Left, here, left-trans, skip-left, typed-left, laws-left}
+use Rattle.text.specs.Laws.Left.{Left, here, left-trans, skip-left}
+use Rattle.text.proofs.Laws.Left.{typed-left, laws-left}
 use Rattle.text.specs.Laws.Out.{Within, passed, Any, fit-within, demand-within, is_number}
 use Rattle.surface.specs.Third.{valid_coverage, valid_depth}
 use Rattle.thirds.specs.Groups.{Three}

@@ -6,7 +6,8 @@ use Rattle.text.specs.Piece.{Piece, gap, Typed}
 use Rattle.text.specs.Read.{Got, misfit, got, guard, and_then}
 use Rattle.text.specs.Numbers.{is_digit, digits}
 use Rattle.text.specs.Laws.Base.{Laws, no-misfit, guard-got, carry, not-space, and-1, and-2}
-use Rattle.text.specs.Laws.Combine.{gap-laws, if-laws, revalid}
+use Rattle.text.specs.Laws.Combine.{if-laws, revalid}
+use Rattle.text.proofs.Laws.Combine.{gap-laws}
 use Rattle.text.specs.Laws.Numbers.{digits-laws}
 use Rattle.runway.specs.Time.{real_time}
 use Rattle.runway.specs.Runway.{is_side, valid_runway, runway_pieces}

@@ -5,7 +5,8 @@ use Rattle.text.specs.Choice.{◌and◌}
 use Rattle.text.specs.Piece.{Piece, gap, nr_groups}
 use Rattle.text.specs.Numbers.{is_digit, digits}
 use Rattle.text.specs.Laws.Base.{Laws, Head, and-1, and-2, head-not, not-space}
-use Rattle.text.specs.Laws.Combine.{seq-laws, gap-laws, bind-laws, made-laws, if-laws, revalid, relay}
+use Rattle.text.specs.Laws.Combine.{seq-laws, bind-laws, made-laws, if-laws, revalid, relay}
+use Rattle.text.proofs.Laws.Combine.{gap-laws}
 use Rattle.text.specs.Laws.Numbers.{digits-laws}
 use Rattle.text.specs.Laws.Names.{all-at}
 use Rattle.text.specs.Laws.Lines.{Ends}

@@ -13,7 +13,8 @@ use Rattle.text.specs.Names.{is_letter, is_name}
 use Rattle.text.specs.Laws.Typing.{join, cut}
 use Rattle.text.specs.Laws.Base.{Laws, Head, Any, inline, true-false, and-1, and-2, and_i, and_r, then-got, guard-got, carry, head-not, head-off, not-space}
 use Rattle.text.specs.Laws.Base.{text-off}
-use Rattle.text.specs.Laws.Combine.{seq-laws, if-laws, as-laws, gap-laws, Gap, revalid, or-laws}
+use Rattle.text.specs.Laws.Combine.{seq-laws, if-laws, as-laws, Gap, revalid, or-laws}
+use Rattle.text.proofs.Laws.Combine.{gap-laws}
 use Rattle.text.specs.Laws.Numbers.{digits-laws, digit-stops}
 use Rattle.text.specs.Laws.Names.{word_next}
 use Rattle.text.specs.Laws.Lines.{Ends}

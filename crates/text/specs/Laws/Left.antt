@@ -1,12 +1,10 @@
 -- What is left of a message is its end, and where that starts.
 use Rattle.std.specs.Prelude.{ℕ, zero, suc, ◌+◌, ◌-◌, ◌≤◌, ◌≡◌, refl, List, [], ◌∷◌, ◌++◌, cond, Bool, true, false, eqb, length, drop}
-use Rattle.std.proofs.Common.{sym, ◌∙◌, ap, length-drop, length-append, arith, eqb-true}
-use Rattle.text.specs.Piece.{Piece, Spaces, none, more, One, byte1, gap1, loose1, end_lf, end_crlf, last_missing, last_lf, last_crlf, nr_left_out}
-use Rattle.text.specs.Piece.{Typed, done, step, nr_written}
+use Rattle.std.proofs.Common.{length-drop, length-append, arith, eqb-true}
+use Rattle.text.specs.Piece.{Spaces, none, more}
 use Rattle.text.specs.Read.{Got, misfit, got, guard, and_then, skip, left_by, read_text, read_seq, read_gap}
 use Rattle.text.specs.Numbers.{is_digit, read_digit, read_digits}
-use Rattle.text.specs.Laws.Base.{Laws, skip-spaces, no-misfit, guard-got, then-got, carry, text-sound, true-false}
-use Rattle.text.specs.Laws.Numbers.{digits-laws}
+use Rattle.text.specs.Laws.Base.{skip-spaces, no-misfit, guard-got, then-got, carry, true-false}
 use Rattle.text.specs.Choice.{is_empty}
 use Rattle.text.specs.Out.{place}
 
@@ -51,32 +49,12 @@ pub drop-place : (at : ℕ) (m : List ℕ) → at ≤ length m → place m (drop
 drop-place at m h = omega (arith, length-drop at m)
 
 -- typings
-spaces-left : {m r : List ℕ} → Spaces m r → Left m r
+pub spaces-left : {m r : List ℕ} → Spaces m r → Left m r
 spaces-left none = here
 spaces-left (more s) = later (spaces-left s)
 
-one_left : {p : Piece} {m r : List ℕ} → One p m r → Left m r
-one_left byte1 = later here
-one_left (gap1 s) = later (spaces-left s)
-one_left (loose1 s) = spaces-left s
-one_left end_lf = later here
-one_left end_crlf = later (later here)
-one_left last_missing = here
-one_left last_lf = later here
-one_left last_crlf = later (later here)
-one_left nr_left_out = here
-
-pub typed-left : {ps : List Piece} {m r : List ℕ} → Typed ps m r → Left m r
-typed-left done = here
-typed-left (step o t) = left-trans (one_left o) (typed-left t)
-typed-left (nr_written s t) = left-trans (typed-left s) (typed-left t)
-
 pub skip-left : (m : List ℕ) → Left m (skip m)
 skip-left m = spaces-left (skip-spaces m)
-
-pub laws-left : {A : Type 0} {v : A → Type 0} {l : A → List Piece} {rd : List ℕ → Got A} {s f : List ℕ → Type 0} → Laws v l rd s f
-    → {m : List ℕ} {a : A} {r : List ℕ} → rd m ≡ got a r → Left m r
-laws-left F e = typed-left (F.sound e).1
 
 -- what a reader leaves
 pub left_by_lem : {A : Type 0} (g : Got A) (m : List ℕ) → ((a : A) (r : List ℕ) → g ≡ got a r → Left m r) → Left m (left_by g)
@@ -90,9 +68,6 @@ seq-left f g m hf hg p r e =
     let x = then-got (f m) e in
     let y = then-got (g x.mid) x.two in
     left-trans (hf x.val x.mid x.one) (carry (λ _ s. Left x.mid s) y.two (hg x.mid y.val y.mid y.one))
-
-pub text-left : (cs m : List ℕ) (u : Unit {0}) (r : List ℕ) → read_text cs m ≡ got u r → Left m r
-text-left cs m u r e = typed-left (text-sound cs m e)
 
 -- behind a gap: the first byte that is no space
 pub gap-skip : {A : Type 0} (f : List ℕ → Got A) (m : List ℕ) {a : A} {r : List ℕ} → read_gap f m ≡ got a r → f (skip m) ≡ got a r
@@ -131,14 +106,6 @@ digits-size (suc n) m {v} {r} e =
         go : (b : Bool) {v : ℕ} {r : List ℕ} → and_then (guard b (got x m)) (λ c r. got (c - 48) r) ≡ got v r → suc (length m) ≡ suc (length r)
         go true f = carry (λ _ s. suc (length m) ≡ suc (length s)) f refl
         go false f = no-misfit f
-
--- what stands behind digits, and behind the spaces that part it from them
-pub digits-left : (n : ℕ) (m : List ℕ) {v : ℕ} {r : List ℕ} → read_digits (suc n) m ≡ got v r → (b : List ℕ) → drop (suc n) (m ++ b) ≡ r ++ b
-digits-left n m {v} {r} e b =
-    let l = laws-left (digits-laws n) e in
-    let k = left_there b l in
-    let z : place m r ≡ suc n = omega (arith, digits-size (suc n) m e) in
-    ap (λ i. drop i (m ++ b)) (sym z) ∙ k
 
 pub skip-more : (m b : List ℕ) → is_empty (skip m) ≡ false → skip (m ++ b) ≡ skip m ++ b
 unfolding skip

@@ -3,10 +3,8 @@ use Rattle.std.specs.Prelude.{ℕ, ◌≡◌, refl, List, [], ◌∷◌, ◌++�
 use Rattle.std.proofs.Common.{subst, ◌∙◌, ap, arith}
 use Rattle.text.specs.Choice.{is_empty}
 use Rattle.text.specs.Piece.{Piece, Typed, Typing}
-use Rattle.text.specs.Read.{Got}
 use Rattle.text.specs.Lines.{Cut, cut, text, closed, all_but_last, line_text}
-use Rattle.text.specs.Laws.Base.{Laws}
-use Rattle.text.specs.Laws.Lines.{Tells, final, next as and-next, typed-clean, closed_on, closed-off, closed_is}
+use Rattle.text.specs.Laws.Lines.{Tells, final, next as and-next, closed_on, closed_is}
 use Rattle.text.specs.Out.{After, finished, more}
 
 -- what comes behind the rows
@@ -49,10 +47,6 @@ opened-closed l k e =
     let h = closed_on l in
     let c : closed k ≡ true = ap closed e ∙ h.0 in
     (c, ap (λ b. cond b (all_but_last k) k) c ∙ (ap all_but_last e ∙ h.1))
-
-pub opened-open : {A : Type 0} {v : A → Type 0} {lay : A → List Piece} {rd : List ℕ → Got A} {s f : List ℕ → Type 0} → Laws v lay rd s f
-    → (a : A) {l : List ℕ} → v a → Typing (lay a) l → (closed l ≡ false) × (line_text l ≡ l)
-opened-open F a {l} w t = let c = closed-off l (typed-clean (F.within a w) t) in (c, ap (λ b. cond b (all_but_last l) l) c)
 
 -- the lines of cuts, by their texts
 pub record Cutting (cs : List Cut) (l : List ℕ) (ls : List (List ℕ)) : Type 0 where

@@ -7,10 +7,13 @@ use Rattle.text.specs.Piece.{Piece, Typed, spell, bytes, words}
 use Rattle.text.specs.Read.{Got, misfit, got, skip, read_text, read_word}
 use Rattle.text.specs.Numbers.{is_digit, number}
 use Rattle.text.specs.Names.{is_letter, is_name, read_name}
-use Rattle.text.specs.Laws.Base.{Laws, Head, Any, inline, text-laws, true-false, head-not, not-space, head-wide, space_next, below, below_at}
-use Rattle.text.specs.Laws.Combine.{seq-laws, as-laws, after-laws, gap-laws, Gap, if-laws, or-laws, relay, revalid, loosen}
+use Rattle.text.specs.Laws.Base.{Laws, Head, Any, inline, true-false, head-not, not-space, head-wide, space_next, below, below_at}
+use Rattle.text.proofs.Laws.Base.{text-laws}
+use Rattle.text.specs.Laws.Combine.{seq-laws, as-laws, Gap, if-laws, or-laws, relay, revalid, loosen}
+use Rattle.text.proofs.Laws.Combine.{after-laws, gap-laws}
 use Rattle.text.specs.Laws.Numbers.{digits-laws, number-laws}
-use Rattle.text.specs.Laws.Names.{name-laws, good, word_on, word_next, on-misfit, no_word, all-at, spell-head}
+use Rattle.text.specs.Laws.Names.{good, word_on, word_next, on-misfit, no_word, all-at}
+use Rattle.text.proofs.Laws.Names.{name-laws, spell-head}
 use Rattle.surface.specs.Descriptions.{dry, description_name}
 use Rattle.thirds.specs.Groups.{codes, coverages, depths, descriptions, measure_pieces, read_measure, read_coverage, description_pieces, description_order}
 use Rattle.thirds.specs.Groups.{read_description, third_pieces, read_third, highest, Three, joined, read_three, group_pieces, read_group}

@@ -18,7 +18,8 @@ use Rattle.board.specs.Board.{names, reported, valid_board}
 use Rattle.board.specs.Report.{place_of, place_for, row_at, owner_at, is_news, refusal, report}
 use Rattle.board.specs.Runs.{by_owner, reports, answers_to}
 use Rattle.board.specs.Shows.{Shown, nothing, row, runway_at, shown_at, ◌IsIn◌, Shows, shows-none, shows-row}
-use Rattle.board.specs.Laws.Rules.{SameList, rules, owner-desk, refused-0}
+use Rattle.board.specs.Laws.Rules.{SameList, rules, owner-desk}
+use Rattle.board.proofs.Laws.Rules.{refused-0}
 use Rattle.board.specs.Laws.Shows.{last-in, permuted}
 use Rattle.board.specs.Laws.Restore.{in_place, own_row, here, placed}
 

@@ -1,0 +1,6 @@
+pub mod Alone
+pub mod Demand
+pub mod Restore
+pub mod Rules
+pub mod Step
+pub mod Taken
