@@ -2,7 +2,8 @@
 use Rattle.std.specs.Prelude.{ℕ, ◌≡◌, List, Bool, true, false}
 use Rattle.std.proofs.Common.{sym, ◌∙◌, ap}
 use Rattle.text.specs.Laws.Base.{and-1, and-2, and_i, true-false}
-use Rattle.sameness.specs.Laws.{addresses-same, same-addresses, filing-same, same-filing, title-same, same-title, rows_same, same-rows, items-same}
+use Rattle.sameness.specs.Laws.{addresses-same, same-addresses, filing-same, same-filing, title-same, same-title, items-same}
+use Rattle.sameness.proofs.Laws.{rows_same, same-rows}
 use Rattle.sameness.specs.Laws.{same-items, language-same, same-language}
 use Rattle.record.specs.declared.Record.{Record}
 use Rattle.record.specs.declared.Reading.{Reading}

@@ -1,5 +1,4 @@
 use mathlib.Core.Path.{sym, ◌∙◌}
-use Prim.Native.Nat.{◌-◌}
 use Rattle.text.specs.Laws.Tests.{tests}
 use Rattle.sameness.specs.Same.{same_item, same_items}
 use Rattle.sameness.proofs.Loops.{left-all, left-on, left-off, left_end}
