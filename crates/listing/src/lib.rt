@@ -1,6 +1,7 @@
 // What the lister prints of a message.
 
 #![tactic(auto)]
+
 ghost use Rattle.std.specs.Prelude.{◌≡◌};
 ghost use Rattle.text.specs.Put.{Put};
 ghost use Rattle.body.specs.Rows.{rows_of};

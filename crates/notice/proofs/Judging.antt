@@ -15,12 +15,12 @@ use Rattle.text.specs.Lines.{onward, cuts, line_size, lines_size, longest}
 use Rattle.text.specs.Out.{Out, refuse, taken, place, next, After, finished, more}
 use Rattle.text.specs.Laws.Base.{true-false}
 use Rattle.text.specs.Laws.Held.{part-all}
-use Rattle.text.specs.Laws.Left.{Left, left-short, left-place, drop-place}
+use Rattle.text.specs.Laws.Left.{left-short, drop-place}
 use Rattle.text.specs.Laws.Out.{Within, stopped, Any, is_number, EndsAfter}
 use Rattle.text.specs.Laws.Cuts.{cuts-ends}
 use Rattle.body.specs.declared.Rows.{Rows}
 use Rattle.body.specs.declared.RowsRead.{RowsRead}
-use Rattle.body.specs.Rows.{rows_of, make_rows, latest}
+use Rattle.body.specs.Rows.{rows_of, latest}
 use Rattle.body.specs.Code.Held.{RowsHeld}
 use Rattle.remarks.specs.declared.RemarksRead.{RemarksRead}
 use Rattle.remarks.specs.Remarks.{Remarks, read_remarks}
@@ -32,7 +32,6 @@ use Rattle.front.specs.Places.{time_on, serial_on}
 use Rattle.front.specs.Code.Front.{heading_of, Opening, FrontHeld}
 use Rattle.front.specs.Laws.Held.{took-front, refused-front}
 use Rattle.record.specs.declared.Record.{Record}
-use Rattle.record.specs.declared.Reading.{Reading}
 use Rattle.record.specs.Record.{make_record}
 use Rattle.record.specs.Answer.{accepted, refused}
 use Rattle.record.specs.Code.Fitted.{mismatch, record_of}

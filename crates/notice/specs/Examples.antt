@@ -33,7 +33,6 @@ use Rattle.body.specs.Rows.{is_among, new_runways, latest_of, latest_from, lates
 use Rattle.record.specs.Notice.{notice_lines, notice, notice_text}
 use Rattle.notice.specs.Reading.{agreeing, read_notice, reading}
 use Rattle.body.specs.Rows as Rows
-use Rattle.body.specs.declared.Rows.{Rows}
 
 -- lines, each with its LF
 abbrev pub message : List String → List ℕ

@@ -34,7 +34,6 @@ use Rattle.notice.specs.Wrong.{Fits, addresses, filing, heading, serial, aerodro
 use Rattle.notice.specs.Wrong.{Rows, front, row, Parted, parted, Aware, aware, ItemsLine, Closed, by_row, by_items, by_language}
 use Rattle.notice.specs.Wrong.{Says, HeadingLine, SerialLine, AerodromeLine, Wrong, too_long, missing, unended, no_row, ninth, row_fault, twice}
 use Rattle.notice.specs.Wrong.{no_items, bad_items, empty_items, no_language, open_language, bad_language, after, serials, aerodromes, times}
-use Rattle.notice.specs.Wrong as Wrong
 use Rattle.notice.specs.Laws.Wrong.{said, saying, Opened, Ended, ended, agreed}
 
 -- a message is wrong, or read

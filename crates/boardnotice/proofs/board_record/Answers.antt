@@ -1,0 +1,4 @@
+use Rattle.boardnotice.proofs.board_record.Goals as goal
+
+pub returns : goal.returns
+returns c = cc
