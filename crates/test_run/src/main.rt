@@ -88,9 +88,7 @@ fn print_parts(rt: &impl Print, input: &[u8]) -> io::Result<()> {
     let mut start_before = first.start;
     let mut end_before = first.end;
     let mut at: usize = 0;
-    let mut number: u32 = 0;
-    while number < MOST {
-        number += 1;
+    for number in 1..=MOST {
         let part = part_at(input, at);
         let letter = part.letter;
         if letter == 0 {
