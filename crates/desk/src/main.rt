@@ -1,10 +1,11 @@
 // The desk: keeps one board and updates it report by report. It reads its input in pieces, hands each to the proved desk, and writes what that puts.
 
 #![tactic(auto)]
+
 ghost use Rattle.std.specs.Prelude.{◌≤◌, length};
 
 use desktext::{OVER, State, feed, finish, start};
-use libc::{STDIN_FILENO, STDOUT_FILENO};
+use std::io::{self, Read};
 
 const PIECE: usize = 4096;
 
@@ -14,54 +15,39 @@ const ROOM: usize = 45056;
 // A last line's answer and eight rows.
 const LAST_ROOM: usize = 1195;
 
-// The state after a piece; the desk stops when its opening was refused, or nothing can be written any more.
-#[derive(Clone, Copy)]
-struct Next {
-    state: State,
-    stops: bool,
-}
-
-fn take_piece(before: State, piece: &[u8]) -> Next
+// The state after a piece whose answers are written.
+fn take_piece(rt: &impl Print, before: State, piece: &[u8]) -> io::Result<State>
     requires { length piece.now ≤ 4096 }
 {
     let mut text = [0; ROOM];
     let fed = feed(before, piece, &mut text, 0);
     let n = fed.behind;
-    let written = io::write_all(STDOUT_FILENO, &text[..n]);
-    let state = fed.state;
-    let standing = state.standing;
-    if standing.phase == OVER {
-        return Next { state, stops: true };
-    }
-    Next {
-        state,
-        stops: !written,
-    }
+    rt.write_all(&text[..n])?;
+    Ok(fed.state)
 }
 
-fn end(state: State) {
+fn end(rt: &impl Print, state: State) -> io::Result<()> {
     let mut text = [0; LAST_ROOM];
     let n = finish(state, &mut text, 0);
-    io::write_all(STDOUT_FILENO, &text[..n]);
+    rt.write_all(&text[..n])
 }
 
-// A proved loop has to end, and nothing says that the input does: it counts down from a number that no run uses up.
-fn main() {
+// The desk stops at the end of its input, when its opening was refused, and when nothing can be read or written any more. A proved loop has to
+// end, and nothing says that the input does: it has more turns than any run uses up.
+fn main(rt: HostRuntime) -> io::Result<()> {
+    let mut input = rt.stdin();
     let mut piece = [0; PIECE];
     let mut state = start();
-    let mut turns = u64::MAX;
-    while 0 < turns {
-        turns -= 1;
-        let got = libc::read(STDIN_FILENO, &mut piece);
-        let n = io::count(got, &piece);
+    for _ in 0..u64::MAX {
+        let n = input.read(&mut piece)?;
         if n == 0 {
-            end(state);
-            return;
+            return end(&rt, state);
         }
-        let next = take_piece(state, &piece[..n]);
-        if next.stops {
-            return;
+        state = take_piece(&rt, state, &piece[..n])?;
+        let standing = state.standing;
+        if standing.phase == OVER {
+            return Ok(());
         }
-        state = next.state;
     }
+    Ok(())
 }

@@ -1,40 +1,51 @@
 // The lister: reads one message from standard input, whole, and prints what `listing` says of it.
 
 #![tactic(auto)]
-use libc::{STDIN_FILENO, STDOUT_FILENO};
+
+ghost use Rattle.std.specs.Prelude.{◌≤◌, length, IfOk};
+
 use listing::list;
+use std::io::{self, Read};
 
 // A message over 4,096 bytes is refused whatever it says: of a longer input one byte more than that is kept.
 const KEPT: usize = 4097;
 
 const ROOM: usize = 8192;
 
-// Reads the input to its end, so that the sender is not cut off. A proved loop has to end, and nothing says that the input does: it counts
-// down from a number that no run uses up.
-fn read_on() {
-    let mut passing = io::buffer();
-    let mut turns = u64::MAX;
-    while 0 < turns {
-        turns -= 1;
-        let got = io::read_full(STDIN_FILENO, &mut passing);
+// Reads until `held` is full or the input ends, and answers how many bytes it put.
+fn read_full(input: &mut impl Read, held: &mut [u8]) -> io::Result<usize>
+    ensures { IfOk result (λ n. n ≤ length held.new) }
+{
+    let mut n: usize = 0;
+    while n < held.len() {
+        let got = input.read(&mut held[n..])?;
         if got == 0 {
-            return;
+            break;
         }
+        n += got;
     }
+    Ok(n)
+}
+
+// Reads the input to its end, so that the sender is not cut off.
+fn read_on(input: &mut impl Read) -> io::Result<()> {
+    io::copy(input, &mut io::sink())?;
+    Ok(())
 }
 
 // No listing is longer than the room.
-fn print_listing(message: &[u8]) {
+fn print_listing(rt: &impl Print, message: &[u8]) -> io::Result<()> {
     let mut text = [0; ROOM];
     let n = list(message, &mut text);
-    io::write_all(STDOUT_FILENO, &text[..n]);
+    rt.write_all(&text[..n])
 }
 
-fn main() {
+fn main(rt: HostRuntime) -> io::Result<()> {
+    let mut input = rt.stdin();
     let mut held = [0; KEPT];
-    let n = io::read_full(STDIN_FILENO, &mut held);
+    let n = read_full(&mut input, &mut held)?;
     if n == KEPT {
-        read_on();
+        read_on(&mut input)?;
     }
-    print_listing(&held[..n]);
+    print_listing(&rt, &held[..n])
 }

@@ -3,18 +3,19 @@
 // text of a row, and its length in five digits; an LF stands behind it.
 
 #![tactic(auto)]
+
 mod messages;
 mod observations;
 mod output;
 mod rows;
 
-ghost use Rattle.std.specs.Prelude.{◌≤◌, length};
+ghost use Rattle.std.specs.Prelude.{◌≤◌, length, IfOk};
 
-use libc::STDIN_FILENO;
 use messages::print_message;
 use observations::print_observations;
 use rows::print_row;
 use scan::digits;
+use std::io::{self, Read};
 
 const ROOM: usize = 400000;
 
@@ -65,58 +66,76 @@ fn part_at(input: &[u8], at: usize) -> Part
     }
 }
 
-fn print_part(letter: u8, number: u32, part: &[u8], before: &[u8]) {
+fn print_part(
+    rt: &impl Print,
+    letter: u8,
+    number: u32,
+    part: &[u8],
+    before: &[u8],
+) -> io::Result<()> {
     if letter == b'M' {
-        print_message(number, part, before);
+        print_message(rt, number, part, before)?;
     }
     if letter == b'R' {
-        print_row(part);
+        print_row(rt, part)?;
     }
+    Ok(())
 }
 
 // Every part of the input; the first is compared with itself.
-fn print_parts(input: &[u8]) {
+fn print_parts(rt: &impl Print, input: &[u8]) -> io::Result<()> {
     let first = part_at(input, 0);
     let mut start_before = first.start;
     let mut end_before = first.end;
     let mut at: usize = 0;
-    let mut number: u32 = 0;
-    while number < MOST {
-        number += 1;
+    for number in 1..=MOST {
         let part = part_at(input, at);
         let letter = part.letter;
         if letter == 0 {
-            return;
+            return Ok(());
         }
         let start = part.start;
         let end = part.end;
         print_part(
+            rt,
             letter,
             number,
             &input[start..end],
             &input[start_before..end_before],
-        );
+        )?;
         if input.len() <= end {
-            return;
+            return Ok(());
         }
         start_before = start;
         end_before = end;
         at = end + 1;
     }
+    Ok(())
 }
 
-fn run(held: &mut [u8]) {
-    let n = io::read_full(STDIN_FILENO, held);
-    print_parts(&held[..n]);
+// Reads until `held` is full or the input ends, and answers how many bytes it put.
+fn read_full(input: &mut impl Read, held: &mut [u8]) -> io::Result<usize>
+    ensures { IfOk result (λ n. n ≤ length held.new) }
+{
+    let mut n: usize = 0;
+    while n < held.len() {
+        let got = input.read(&mut held[n..])?;
+        if got == 0 {
+            break;
+        }
+        n += got;
+    }
+    Ok(n)
 }
 
-// Lends the array where its length is that of its type: where it is made, the prover would count its bytes one by one.
-fn lend(held: &mut [u8; ROOM]) {
-    run(held);
+fn run(rt: &impl Print, input: &mut impl Read, held: &mut [u8]) -> io::Result<()> {
+    let n = read_full(input, held)?;
+    print_parts(rt, &held[..n])
 }
 
-fn main() {
-    print_observations();
+fn main(rt: HostRuntime) -> io::Result<()> {
+    print_observations(&rt)?;
+    let mut input = rt.stdin();
     let mut held = [0; ROOM];
-    lend(&mut held);
+    run(&rt, &mut input, &mut held)
 }

@@ -2,36 +2,37 @@
 use crate::output::{print, print_digits, print_place};
 use row::{Row, disagreeing};
 use rowtext::{LONGEST_ROW, read_row, write_row};
+use std::io;
 use text::LONGEST;
 
-fn print_canonical(row: Row) {
+fn print_canonical(rt: &impl Print, row: Row) -> io::Result<()> {
     let mut text = [0; LONGEST_ROW];
     let n = write_row(&mut text, row);
     if n <= LONGEST_ROW {
-        print(&text[0..n]);
+        print(rt, &text[0..n])?;
     }
+    Ok(())
 }
 
-fn print_taken(row: Row) {
+fn print_taken(rt: &impl Print, row: Row) -> io::Result<()> {
     let a = disagreeing(row);
-    print(b" ");
-    print_digits(1, a.count as u32);
-    print(b" ");
-    print_canonical(row);
+    print(rt, b" ")?;
+    print_digits(rt, 1, a.count as u32)?;
+    print(rt, b" ")?;
+    print_canonical(rt, row)
 }
 
-pub fn print_row(text: &[u8]) {
+pub fn print_row(rt: &impl Print, text: &[u8]) -> io::Result<()> {
     if LONGEST < text.len() {
-        print(b"05\n");
-        return;
+        return print(rt, b"05\n");
     }
     let r = read_row(text);
-    print_digits(2, r.refusal as u32);
+    print_digits(rt, 2, r.refusal as u32)?;
     if r.refusal == 0 {
         let row = r.row;
-        print_taken(row);
+        print_taken(rt, row)?;
     } else {
-        print_place(r.place);
+        print_place(rt, r.place)?;
     }
-    print(b"\n");
+    print(rt, b"\n")
 }
