@@ -44,7 +44,6 @@ use Rattle.body.specs.declared.Rows.{Rows}
 use Rattle.body.specs.Rows.{rows_of, make_rows}
 use Rattle.radio.specs.declared.Radio.{Radio}
 use Rattle.radio.specs.Outcome.{Outcome}
-use Rattle.radio.specs.Outcome as Outcome
 use Rattle.radio.specs.Number.{is_byte}
 use Rattle.radio.specs.Record.{is_count, radio_record, sendable, read_record}
 use Rattle.radio.specs.Answers.{radio_reading, sending, WroteRadio}
