@@ -25,7 +25,7 @@ The fourth form proves nothing: it only looks whether the `old:` texts of every 
 
 A row of a table is printed for each edit that is tried: the place or the name, the edit or its comment, and where it was refused with the first error. Refused
 means that the check ended with status 1 and the prover's `logic=not-proved`; a random edit of code may be refused by the compiler as well, and its row
-says so. An edit that no crate refuses is called KEPT, one that does not fit its files or does not reach the prover UNFIT, a check
+says so. Where it is refused only because a proof file names what the edit renames, its row says that, too: then it tells little of the promise. An edit that no crate refuses is called KEPT, one that does not fit its files or does not reach the prover UNFIT, a check
 that ended otherwise NO VERDICT, and the status is then 1.
 """
 import contextlib
@@ -49,6 +49,8 @@ IN_CODE = re.compile(r'"(?P<text>[^"]*)"|b\'(?P<byte>[^\\])\'|(?<![\w.])(?P<numb
 HOME = "Rattle.std.specs.Prelude"
 # What the prover says of a text that it cannot read, as it says it of a definition's file.
 UNREAD = re.compile(r"is not in scope|has no field|is no name|operand is missing|expected the end|cannot continue")
+# What it says of a proof file that names a goal or a fact which an edit has renamed, as `returns-then-t-lt-START` where `<` became `<=`.
+RENAMED = re.compile(r"\w+/proofs/.*(has no field|is not in scope|has no `|was not admitted)")
 
 
 class End(enum.Enum):
@@ -119,12 +121,15 @@ def changes(match):
 
 
 def first_error(crate, lines):
-    """The first error that a check printed: of a text that cannot be read, else of a table before that of a law, and that before that of a function's proof."""
-    errors = [re.sub(r"^(\./)?(?=(src|specs|proofs)/)", f"{crate}/", line) for line in lines if re.search(r":\d+:\d+: error", line)]
+    """The first error that a check printed: of a text that cannot be read, else of a table before that of a law, and that before that of a function's proof
+    or a promise that is not proved; and only where there is no other, of a name that a proof file no longer finds."""
+    told = [line.removeprefix("note: ") for line in lines if re.search(r":\d+:\d+: error|^note: src/\S+:\d+:\d+: it is not proved", line)]
+    errors = [re.sub(r"^(\./)?(?=(src|specs|proofs)/)", f"{crate}/", line) for line in told]
     unread = [error for error in errors if re.match(r"\w+/(src|specs)/", error) and UNREAD.search(re.sub(r"`[^`]*`", "", error))]
     evaluated = [error for error in errors if re.match(r"\w+/specs/(Tables|LineTables|Edges|Pins|Examples)\b", error)]
     stated = [error for error in errors if re.match(r"\w+/(specs|proofs/Laws|proofs/Theorems)\b", error)]
-    return (unread or evaluated or stated or errors or lines[-1:] or ["no word"])[0]
+    others = [error for error in errors if not RENAMED.match(error)]
+    return (unread or evaluated or stated or others or errors or lines[-1:] or ["no word"])[0]
 
 
 def checked(root, crate):
@@ -148,6 +153,8 @@ def judged(end, error, compiler_counts):
     match end:
         case End.PROVED:
             return False, "KEPT"
+        case End.NOT_PROVED if RENAMED.match(error):
+            return True, f"only for a name in a proof file: {error}"
         case End.NOT_PROVED:
             return True, error
         case End.NOT_COMPILED if compiler_counts:

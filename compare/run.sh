@@ -3,7 +3,7 @@
 #
 #     compare/run.sh DIRECTORY [N [SEED]]
 #
-# DIRECTORY holds libphengaryl.a; `rt staticlib phengaryl` writes it to target/staticlib. The messages, rows, pairs of rows,
+# DIRECTORY holds libphengaryl.a; `build.sh` writes it to target/staticlib. The messages, rows, pairs of rows,
 # reports, lists of rows for the radio, radio records and boards restored by hand come first. N messages (20000 if not said),
 # as many observations, rows, pairs of rows, damaged records, lists of rows for the radio and radio records, and a tenth of
 # that of pairs, desk inputs, board notices, live boards, radio records cut at every byte and boards restored from their

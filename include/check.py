@@ -75,7 +75,7 @@ def source_structs():
     found = {}
     for path in sorted((ROOT / "crates").glob("*/src/*.rt")):
         text = source(path)
-        for m in re.finditer(r"#\[repr\(C\)\]\s*pub struct (\w+)\s*\{(.*?)\}", text, re.S):
+        for m in re.finditer(r"#\[repr\(C\)\]\s*(?:#\[[^\]]*\]\s*)*pub struct (\w+)\s*\{(.*?)\}", text, re.S):
             if m[1] in found:
                 fail(f"two structs {m[1]} are marked #[repr(C)]")
             found[m[1]] = pairs(m[2], r"pub (\w+): (.+)")
@@ -86,11 +86,11 @@ def source_functions():
     """The exported functions: name to the types of the parameters and of the answer."""
     found = {}
     text = source("crates/phengaryl/src/lib.rt")
-    for m in re.finditer(r'#\[no_mangle\]\s*pub extern "C" fn (\w+)\s*\((.*?)\)\s*->\s*(\w+)', text, re.S):
+    for m in re.finditer(r'#\[unsafe\(no_mangle\)\]\s*pub extern "C" fn (\w+)\s*\((.*?)\)\s*->\s*(\w+)', text, re.S):
         found[m[1]] = ([kind for _, kind in pairs(m[2], r"(\w+): (.+)")], m[3])
-    marks = text.count("#[no_mangle]")
+    marks = text.count("#[unsafe(no_mangle)]")
     if marks != len(found):
-        fail(f"crates/phengaryl/src/lib.rt marks {marks} functions with #[no_mangle], of which {len(found)} are understood")
+        fail(f"crates/phengaryl/src/lib.rt marks {marks} functions with #[unsafe(no_mangle)], of which {len(found)} are understood")
     return found
 
 

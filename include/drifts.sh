@@ -5,7 +5,10 @@
 #     include/drifts.sh
 set -eu
 cd "$(dirname "$0")/.."
-copy=target/drifts
+# Not in this tree: rt ci refuses a source that stands in no crate.
+room=$(mktemp -d)
+trap 'rm -rf "$room"' EXIT
+copy=$room/drifts
 
 # Which drift, in which file, by which sed script.
 try() {

@@ -3,7 +3,7 @@
 #
 #     compare/fuzz/run.sh DIRECTORY [SECONDS]
 #
-# DIRECTORY holds libphengaryl.a; `rt staticlib phengaryl` writes it to target/staticlib. The branches of the second reader
+# DIRECTORY holds libphengaryl.a; `build.sh` writes it to target/staticlib. The branches of the second reader
 # are counted, so that an input that takes a new way in it is kept and varied. The messages and rows of the program
 # `test_run`, every third message with the one behind it as a pair, the input of `desk`, alone and with every tenth
 # message as the model of its board's notice, and a radio record of two rows come first. It needs an x86-64 machine and
