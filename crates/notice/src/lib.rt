@@ -18,7 +18,10 @@ use front::read_front;
 use record::{Reading, Record, accepted, mismatch, put_notice, refused, valid_record};
 use remarks::read_remarks;
 use sameness::{same_addresses, same_filing, same_items, same_language, same_rows, same_title};
-use text::{LONGEST, Written, first_line, lines_size, place, refusal};
+use text::{LONGEST, first_line, lines_size, place, refusal};
+
+// What a writing answers, under the name that it had here.
+pub use text::Written;
 
 // ---- Reading
 
