@@ -124,6 +124,7 @@ def first_error(crate, lines):
     """The first error that a check printed: of a text that cannot be read, else of a table before that of a law, and that before that of a function's proof
     or a promise that is not proved; and only where there is no other, of a name that a proof file no longer finds."""
     told = [line.removeprefix("note: ") for line in lines if re.search(r":\d+:\d+: error|^note: src/\S+:\d+:\d+: it is not proved", line)]
+    told = [line for line in told if "that depend on" not in line and "that depends on" not in line] or told
     errors = [re.sub(r"^(\./)?(?=(src|specs|proofs)/)", f"{crate}/", line) for line in told]
     unread = [error for error in errors if re.match(r"\w+/(src|specs)/", error) and UNREAD.search(re.sub(r"`[^`]*`", "", error))]
     evaluated = [error for error in errors if re.match(r"\w+/specs/(Tables|LineTables|Edges|Pins|Examples)\b", error)]
