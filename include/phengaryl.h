@@ -10,7 +10,7 @@
  * pointers point to one object of their type, or to as many as their array says; what is written to overlaps nothing else that is handed over;
  * a `bool` is true or false.
  *
- * The library is target/staticlib/libphengaryl.a, for x86-64 Linux; `rt staticlib phengaryl` proves and writes it, and install.sh installs it.
+ * The library is target/staticlib/libphengaryl.a, for x86-64 Linux; build.sh proves and writes it, and install.sh installs it.
  * include/check.sh tells whether this file and the library's sources declare the same.
  */
 #ifndef PHENGARYL_H

@@ -1,4 +1,4 @@
--- Definitions first; then what is shown of them, Theorems (demand 3) and Laws; tables that the checker evaluates.
+-- Definitions first; then what is shown of them, Theorems and Laws, here and in proofs/ (demand 3 there); tables that the checker evaluates.
 pub mod Board
 pub mod Report
 pub mod Runs

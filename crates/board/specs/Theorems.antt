@@ -1,4 +1,4 @@
--- Demand 3: in whatever order the inspection cars call in, the board shows for each runway the report observed last; and no desk sees what the other does.
+-- What opening answers, that a refused report changes nothing, and that the desk's step leaves no choice. Demand 3 itself is proofs/Theorems.
 use Rattle.std.specs.Prelude.{ℕ, ◌≡◌, cond, Bool, true, false}
 use Rattle.std.proofs.Math.Path.{refl}
 use Rattle.std.proofs.Common.{sym, ◌∙◌, eqb-true}

@@ -1,5 +1,5 @@
 // The board: the rows last observed on the runways of one aerodrome. Its rules, opening and reports.
-// The definitions that the promises cite stand in specs/; demand 3 is specs/Theorems.
+// The definitions that the promises cite stand in specs/; demand 3 is proofs/Theorems.
 
 #![tactic(auto)]
 
