@@ -10,14 +10,9 @@ ghost use Rattle.text.specs.Numbers.{read_digits};
 ghost use Rattle.text.specs.Names.{is_letter, is_name, is_plain_byte, in_class, run, past, read_count, is_space};
 ghost use Rattle.text.specs.Code.Held.{Held, Reached, Eight, starts_with, is_got};
 
-use text::{BLOCK, Found, NONE, place};
+use text::{BLOCK, Class, Found, place};
 
 const SPACE: u8 = 32;
-
-// Classes of bytes: letters, capitals and digits.
-pub const LETTERS: u8 = 0;
-
-pub const CAPITALS_AND_DIGITS: u8 = 1;
 
 // Whether a block of spaces stands at `i`.
 fn is_gap(s: &[u8], i: usize) -> bool
@@ -129,33 +124,29 @@ pub fn spaces(s: &[u8], i: usize) -> usize
 
 // The value `v` where the text `t` stands at `i`, each of its spaces typed as one or more. Each byte of `t` takes a byte or more, so that what is
 // left is measured at the start and behind each gap, and not for every byte.
-pub fn word(s: &[u8], i: usize, t: &[u8], v: u32) -> Found
+pub fn word(s: &[u8], i: usize, t: &[u8], v: u32) -> Option<Found>
     ensures { Held s.now (read_word t.now v (drop i s.now)) result }
 {
     let mut j = place(s, i);
     if s.len() - j < t.len() {
-        return NONE;
+        return None;
     }
     let mut k = 0;
     while k < t.len() {
         let b = t[k];
         if s[j] != b {
-            return NONE;
+            return None;
         }
         j += 1;
         k += 1;
         if b == SPACE {
             j = spaces(s, j);
             if s.len() - j < t.len() - k {
-                return NONE;
+                return None;
             }
         }
     }
-    Found {
-        fits: true,
-        value: v,
-        next: j,
-    }
+    Some(Found { value: v, next: j })
 }
 
 fn wide(b: u8) -> u32
@@ -165,35 +156,31 @@ fn wide(b: u8) -> u32
 }
 
 // The number in `n` digits at `i`; more than nine are none.
-pub fn digits(s: &[u8], i: usize, n: usize) -> Found
+pub fn digits(s: &[u8], i: usize, n: usize) -> Option<Found>
     ensures { Held s.now (guard (nat_le n 9) (read_digits n (drop i s.now))) result }
 {
     if 9 < n {
-        return NONE;
+        return None;
     }
     let mut j = place(s, i);
     if s.len() - j < n {
-        return NONE;
+        return None;
     }
     let mut k = 0;
     let mut value: u32 = 0;
     while k < n {
         let b = wide(s[j]);
         if b < 48 {
-            return NONE;
+            return None;
         }
         if 57 < b {
-            return NONE;
+            return None;
         }
         value = value * 10 + (b - 48);
         j += 1;
         k += 1;
     }
-    Found {
-        fits: true,
-        value,
-        next: j,
-    }
+    Some(Found { value, next: j })
 }
 
 fn is_letter(c: u8) -> bool
@@ -232,17 +219,17 @@ fn is_plain(c: u8) -> bool
     is_letter(c)
 }
 
-fn in_class(class: u8, c: u8) -> bool
+fn in_class(class: Class, c: u8) -> bool
     ensures { result ≡ in_class class c }
 {
-    if class == LETTERS {
-        return is_letter(c);
+    match class {
+        Class::Letters => is_letter(c),
+        Class::Names => is_name(c),
     }
-    is_name(c)
 }
 
 // The place behind the longest run of bytes of a class from `i` on.
-pub fn run(s: &[u8], i: usize, class: u8) -> usize
+pub fn run(s: &[u8], i: usize, class: Class) -> usize
     ensures { Reached s.now (past (in_class class) (drop i s.now)) result }
 {
     let mut j = place(s, i);
@@ -257,7 +244,7 @@ pub fn run(s: &[u8], i: usize, class: u8) -> usize
 }
 
 // Whether `n` bytes of a class stand at `i`.
-pub fn counted(s: &[u8], i: usize, class: u8, n: usize) -> bool
+pub fn counted(s: &[u8], i: usize, class: Class, n: usize) -> bool
     ensures { result ≡ is_got (read_count (in_class class) n (drop i s.now)) }
 {
     let mut j = place(s, i);

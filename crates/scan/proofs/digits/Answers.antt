@@ -7,12 +7,12 @@ use Rattle.scan.proofs.Steps.{no-digits, digits-short, stop-low, stop-high, one_
 use Rattle.scan.proofs.digits.Goals as goal
 
 pub returns-then-n-gt9 : goal.returns-then-n-gt9
-returns-then-n-gt9 c = record { within = search rules; says = rw (lt-leb c.args.n 9 c.if-n-gt9.true); blank = refl }
+returns-then-n-gt9 c = record { within = search rules; says = rw (lt-leb c.args.n 9 c.if-n-gt9.true) }
 
 pub returns-then-s-j : goal.returns-then-s-j
 returns-then-s-j c =
     let a = c.args in
-    record { within = search rules; says = rw (le-leb a.n 9 (search rules)) (digits-short a.n (drop a.i a.s.now) (rw (reached-length c.place-j.ensures) c.if-s-j.true)); blank = refl }
+    record { within = search rules; says = rw (le-leb a.n 9 (search rules)) (digits-short a.n (drop a.i a.s.now) (rw (reached-length c.place-j.ensures) c.if-s-j.true)) }
 
 pub loop-k-init : goal.loop-k-init
 loop-k-init c =
@@ -24,13 +24,13 @@ pub returns-then-b-lt48 : goal.returns-then-b-lt48
 returns-then-b-lt48 c =
     let a = c.args in
     let o = c.loop-k in
-    record { within = search rules; says = rw (le-leb a.n 9 (search rules)) (stop-low a.s.now (drop a.i a.s.now) o.j o.k a.n o.value o.invariant.3 (search rules) (search rules) (omega (arith, c.wide-b.ensures))); blank = refl }
+    record { within = search rules; says = rw (le-leb a.n 9 (search rules)) (stop-low a.s.now (drop a.i a.s.now) o.j o.k a.n o.value o.invariant.3 (search rules) (search rules) (omega (arith, c.wide-b.ensures))) }
 
 pub returns-then-b-gt57 : goal.returns-then-b-gt57
 returns-then-b-gt57 c =
     let a = c.args in
     let o = c.loop-k in
-    record { within = search rules; says = rw (le-leb a.n 9 (search rules)) (stop-high a.s.now (drop a.i a.s.now) o.j o.k a.n o.value o.invariant.3 (search rules) (search rules) (omega (arith, c.wide-b.ensures))); blank = refl }
+    record { within = search rules; says = rw (le-leb a.n 9 (search rules)) (stop-high a.s.now (drop a.i a.s.now) o.j o.k a.n o.value o.invariant.3 (search rules) (search rules) (omega (arith, c.wide-b.ensures))) }
 
 pub overflow_mul-value : goal.overflow_mul-value
 overflow_mul-value c =
@@ -56,4 +56,4 @@ returns c =
     let a = c.args in
     let o = c.loop-k in
     let z : o.k ≡ a.n = omega arith in
-    record { within = search rules; says = rw (le-leb a.n 9 (search rules)) (ap (λ (x : ℕ). read_digits x (drop a.i a.s.now)) (sym z) ∙ o.invariant.3); blank = refl }
+    record { within = search rules; says = rw (le-leb a.n 9 (search rules)) (ap (λ (x : ℕ). read_digits x (drop a.i a.s.now)) (sym z) ∙ o.invariant.3) }

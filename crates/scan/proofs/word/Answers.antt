@@ -12,7 +12,7 @@ behind_gap s t i j k n l m e f left o = ap (read_text (drop (k + 1) t)) left ∙
 pub returns-then-s-j : goal.returns-then-s-j
 returns-then-s-j c =
     let a = c.args in
-    record { within = search rules; says = rw (text-short a.t.now (drop a.i a.s.now) (rw (reached-length c.place-j.ensures) c.if-s-j.true)); blank = refl }
+    record { within = search rules; says = rw (text-short a.t.now (drop a.i a.s.now) (rw (reached-length c.place-j.ensures) c.if-s-j.true)) }
 
 pub loop-k-init : goal.loop-k-init
 loop-k-init c =
@@ -24,7 +24,7 @@ pub returns-then-s-j-2 : goal.returns-then-s-j-2
 returns-then-s-j-2 c =
     let a = c.args in
     let o = c.loop-k in
-    record { within = search rules; says = rw (← o.invariant.3, text-other a.s.now o.j a.t.now o.k (search rules) (search rules) c.if-s-j-2.true); blank = refl }
+    record { within = search rules; says = rw (← o.invariant.3, text-other a.s.now o.j a.t.now o.k (search rules) (search rules) c.if-s-j-2.true) }
 
 pub returns-then-s-j-3 : goal.returns-then-s-j-3
 returns-then-s-j-3 c =
@@ -32,7 +32,7 @@ returns-then-s-j-3 c =
     let o = c.loop-k in
     let l = length-drop (o.k + 1) a.t.now in
     let n = length-drop c.spaces-j.result a.s.now in
-    record { within = search rules; says = rw (← (behind_gap a.s.now a.t.now a.i o.j o.k c.spaces-j.result (search rules) (search rules) c.if-s-j-2.false c.if-b-eq-SPACE.true c.spaces-j.ensures.left o.invariant.3), text-short (drop (o.k + 1) a.t.now) (drop c.spaces-j.result a.s.now) (omega (arith, l, n, c.if-s-j-3.true))); blank = refl }
+    record { within = search rules; says = rw (← (behind_gap a.s.now a.t.now a.i o.j o.k c.spaces-j.result (search rules) (search rules) c.if-s-j-2.false c.if-b-eq-SPACE.true c.spaces-j.ensures.left o.invariant.3), text-short (drop (o.k + 1) a.t.now) (drop c.spaces-j.result a.s.now) (omega (arith, l, n, c.if-s-j-3.true))) }
 
 pub loop-k-preserved-else-s-j-3 : goal.loop-k-preserved-else-s-j-3
 loop-k-preserved-else-s-j-3 c =
@@ -50,4 +50,4 @@ pub returns : goal.returns
 returns c =
     let a = c.args in
     let o = c.loop-k in
-    record { within = search rules; says = rw (← o.invariant.3, text-done a.s.now o.j a.t.now o.k (search rules)); blank = refl }
+    record { within = search rules; says = rw (← o.invariant.3, text-done a.s.now o.j a.t.now o.k (search rules)) }
