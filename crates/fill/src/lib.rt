@@ -2,7 +2,7 @@
 
 #![tactic(auto)]
 
-ghost use Rattle.std.specs.Prelude.{◌≡◌, ℕ, ◌+◌, ◌%◌, ◌<◌, ◌≤◌, List, length};
+ghost use Rattle.std.specs.Prelude.{◌≡◌, ℕ, ◌+◌, ◌%◌, ◌<◌, ◌≤◌, List, ◌∷◌, length};
 ghost use Rattle.std.specs.Fn.{FnOnceReturnsAtMut};
 ghost use Rattle.std.proofs.lemmas.List.Edits.{sets};
 ghost use Rattle.text.specs.Piece.{canonical};
@@ -119,4 +119,13 @@ pub fn in_rest<F: FnOnce(&mut [u8]) -> usize>(out: &mut [u8], at: usize, write: 
     let start = place(out, at);
     let n = write(&mut out[start..]);
     told_behind(out, at, n)
+}
+
+// The same in a new line, under the text that ends at `at`.
+pub fn line_under<F: FnOnce(&mut [u8]) -> usize>(out: &mut [u8], at: usize, write: F) -> usize
+    requires { F.IsAlwaysCallable write }
+    ensures { (t : List ℕ) → Writes (FnOnceReturnsAtMut F.FnOnce write) t → Put at (10 ∷ t) out.old out.new result }
+{
+    let line = put(out, at, b"\n");
+    in_rest(out, line, write)
 }
