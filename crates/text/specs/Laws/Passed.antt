@@ -50,11 +50,8 @@ module _ (p : ℕ → Bool) (m : List ℕ) (j : ℕ) where
         go n e = rw (e, add-one, drop-cons m j 0 h, q) (again (read_count p n (drop (suc j) m)))
 
 -- one byte more of a block
-pub block_more : (p : ℕ → Bool) (m : List ℕ) (i k : ℕ) → i + k < length m
-    → all p (take (k + 1) (drop i m)) ≡ (all p (take k (drop i m)) and p (get_or m (i + k) 0))
-block_more p m i k h =
-    let l : k < length (drop i m) = omega (arith, length-drop i m) in
-    rw (add-one, take-suc (drop i m) k 0 l, get_or-drop i m k 0) (all-last p (take k (drop i m)) (get_or m (i + k) 0))
+pub all_more : (p : ℕ → Bool) (m : List ℕ) (k : ℕ) → k < length m → all p (take (k + 1) m) ≡ (all p (take k m) and p (get_or m k 0))
+all_more p m k h = rw (add-one, take-suc m k 0 h) (all-last p (take k m) (get_or m k 0))
 
 -- a block that does not fit in, and one that does
 pub block_out : (p : ℕ → Bool) (n : ℕ) (m : List ℕ) → length m < n → starts_with n p m ≡ false
