@@ -4,13 +4,14 @@
 
 ghost use Rattle.std.specs.Prelude.{◌≡◌, [], ◌∷◌};
 ghost use Rattle.text.specs.Choice.{◌and◌};
+ghost use Rattle.text.specs.Refusals.{number};
 ghost use Rattle.row.specs.Row.{valid_row};
 ghost use Rattle.due.specs.Third.{rise, size, is_significant, depth_counts, third_counts};
 ghost use Rattle.due.specs.Change.{some, counts_of, is_due, compared, refused, change};
 
 use row::{Row, same_runway, valid_row};
 use surface::{Third, line_of};
-use text::refusal;
+use text::refusal::Refusal;
 
 #[repr(C)]
 #[derive(Clone, Copy)]
@@ -99,11 +100,11 @@ fn some(a: bool, b: bool, c: bool) -> bool
     c
 }
 
-fn refused(number: u8) -> Change
-    ensures { result ≡ refused number }
+fn refused(refusal: Refusal) -> Change
+    ensures { result ≡ refused (number refusal) }
 {
     Change {
-        refusal: number,
+        refusal: refusal.number(),
         counts: [false, false, false],
         due: false,
     }
@@ -137,7 +138,7 @@ pub fn compare(old: Row, new: Row) -> Change
         if same_runway(old, new) {
             return compared(old, new);
         }
-        return refused(refusal::RUNWAYS_DIFFER);
+        return refused(Refusal::RunwaysDiffer);
     }
-    refused(refusal::INVALID_ROW)
+    refused(Refusal::InvalidRow)
 }

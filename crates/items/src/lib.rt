@@ -18,7 +18,8 @@ pub mod words;
 
 use fill::put;
 use runway::valid_runway;
-use scan::{CAPITALS_AND_DIGITS, LETTERS, all_plain, counted, run, same_bytes, zeros_from};
+use scan::{all_plain, counted, run, same_bytes, zeros_from};
+use text::Class;
 
 // An awareness item, zeros in every field that its letter does not use.
 #[repr(C)]
@@ -201,8 +202,8 @@ fn valid_slot(s: &[u8]) -> bool
     if s.len() != TAXIWAY_SIZE {
         return false;
     }
-    if counted(s, 0, LETTERS, 1) {
-        return zeros_from(s, run(s, 0, CAPITALS_AND_DIGITS));
+    if counted(s, 0, Class::Letters, 1) {
+        return zeros_from(s, run(s, 0, Class::Names));
     }
     false
 }
@@ -265,7 +266,7 @@ fn name_fits(letter: u8, name: &[u8]) -> bool
         return false;
     }
     if letter == b'R' {
-        return zeros_from(name, run(name, 0, CAPITALS_AND_DIGITS));
+        return zeros_from(name, run(name, 0, Class::Names));
     }
     zeros_from(name, 0)
 }
@@ -305,7 +306,7 @@ pub fn valid_item(i: Item) -> bool
 fn is_named(name: &[u8]) -> bool
     ensures { result ≡ head_is is_name name.now }
 {
-    counted(name, 0, CAPITALS_AND_DIGITS, 1)
+    counted(name, 0, Class::Names, 1)
 }
 
 // Two items R: both have names, and not the same.
@@ -515,13 +516,9 @@ pub fn holds_language(l: Language) -> bool
     false
 }
 
-// Puts the first `length` bytes.
-pub fn put_language(rest: &mut [u8], bytes: [u8; 400], length: u16) -> usize
-    ensures { Put 0 (canonical (verbatim (take length bytes))) rest.old rest.new result }
+// Plain language is put as it stands.
+pub fn put_language(out: &mut [u8], language: &[u8]) -> usize
+    ensures { Put 0 (canonical (verbatim language.now)) out.old out.new result }
 {
-    let n = length as usize;
-    if bytes.len() < n {
-        return put(rest, 0, &bytes);
-    }
-    put(rest, 0, &bytes[..n])
+    put(out, 0, language)
 }

@@ -18,7 +18,7 @@ use description::{
     SLUSH, STANDING_WATER, WATER_ON_COMPACTED_SNOW, WET, WET_ICE, WET_SNOW,
     WET_SNOW_ON_COMPACTED_SNOW, WET_SNOW_ON_ICE,
 };
-use text::refusal;
+use text::refusal::Refusal;
 
 pub mod description;
 
@@ -548,7 +548,7 @@ pub fn assess(o: Observation) -> Assessment
     if in_range(o) {
         if contradictory(o) {
             return Assessment {
-                refusal: refusal::CONTRADICTION,
+                refusal: Refusal::Contradiction.number(),
                 third: BLANK_THIRD,
             };
         }
@@ -558,7 +558,7 @@ pub fn assess(o: Observation) -> Assessment
         };
     }
     Assessment {
-        refusal: refusal::OUT_OF_RANGE,
+        refusal: Refusal::OutOfRange.number(),
         third: BLANK_THIRD,
     }
 }
