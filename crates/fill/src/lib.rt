@@ -2,11 +2,15 @@
 
 #![tactic(auto)]
 
-ghost use Rattle.std.specs.Prelude.{◌≡◌, ◌+◌, ◌%◌, ◌<◌, ◌≤◌, length};
+ghost use Rattle.std.specs.Prelude.{◌≡◌, ℕ, ◌+◌, ◌%◌, ◌<◌, ◌≤◌, List, ◌∷◌, length};
+ghost use Rattle.std.specs.Fn.{FnOnceReturnsAtMut};
 ghost use Rattle.std.proofs.lemmas.List.Edits.{sets};
 ghost use Rattle.text.specs.Piece.{canonical};
 ghost use Rattle.text.specs.Numbers.{digits, number};
 ghost use Rattle.text.specs.Put.{Put, told};
+ghost use Rattle.fill.specs.Code.Writes.{Writes};
+
+use text::place;
 
 // Places are told so far past the buffer's end.
 const PAST_END: usize = 65536;
@@ -104,4 +108,24 @@ pub fn put_number(out: &mut [u8], at: usize, n: u8) -> usize
         return put_digits(out, at, 2, n as u32);
     }
     put_digits(out, at, 1, n as u32)
+}
+
+// Lends the rest of the buffer from `at` on to a writer, which answers how many bytes it filled, and tells the place behind them: the text that the
+// writer puts at the front of whatever it is lent stands at `at`.
+pub fn in_rest<F: FnOnce(&mut [u8]) -> usize>(out: &mut [u8], at: usize, write: F) -> usize
+    requires { F.IsAlwaysCallable write }
+    ensures { (t : List ℕ) → Writes (FnOnceReturnsAtMut F.FnOnce write) t → Put at t out.old out.new result }
+{
+    let start = place(out, at);
+    let n = write(&mut out[start..]);
+    told_behind(out, at, n)
+}
+
+// The same in a new line, under the text that ends at `at`.
+pub fn line_under<F: FnOnce(&mut [u8]) -> usize>(out: &mut [u8], at: usize, write: F) -> usize
+    requires { F.IsAlwaysCallable write }
+    ensures { (t : List ℕ) → Writes (FnOnceReturnsAtMut F.FnOnce write) t → Put at (10 ∷ t) out.old out.new result }
+{
+    let line = put(out, at, b"\n");
+    in_rest(out, line, write)
 }

@@ -10,7 +10,7 @@ ghost use Rattle.row.specs.Agreement.{disagrees, disagreements, agreement};
 
 use runway::{real_time, valid_runway};
 use surface::{BLANK_THIRD, Third, agrees, description, is_blank_third, valid_third};
-use text::refusal;
+use text::refusal::Refusal;
 
 // In every field 0 stands for NR and for what is missing.
 #[repr(C)]
@@ -206,7 +206,7 @@ pub fn disagreeing(row: Row) -> Agreement
         };
     }
     Agreement {
-        refusal: refusal::INVALID_ROW,
+        refusal: Refusal::InvalidRow.number(),
         count: 0,
     }
 }

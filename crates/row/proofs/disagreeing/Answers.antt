@@ -7,4 +7,4 @@ returns-then-valid_row c = rw (← c.valid_row.ensures, c.if-valid_row.true, c.d
 
 pub returns : goal.returns
 unfolding agreement
-returns c = rw (← c.valid_row.ensures, c.if-valid_row.false)
+returns c = rw (← c.valid_row.ensures, c.if-valid_row.false, c.number.ensures)
