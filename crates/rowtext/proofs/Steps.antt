@@ -6,20 +6,19 @@ use Rattle.text.specs.Read.{Got, got, skip, read_if, read_gap}
 use Rattle.text.specs.Numbers.{read_digits}
 use Rattle.text.specs.Out.{Out, refuse}
 use Rattle.text.specs.Refusals.{number}
-use Rattle.text.specs.Code.Held.{Held, Reached}
+use Rattle.text.specs.Code.Held.{Held}
 use Rattle.text.specs.Laws.Base.{Laws}
 use Rattle.text.specs.declared.Found.{Found}
 use Rattle.text.specs.declared.refusal.Refusal.{Refusal}
 use Rattle.text.specs.declared.refusal.Fault.{Fault}
 use Rattle.thirds.specs.Groups.{Three, group_pieces, read_group}
-use Rattle.thirds.specs.Code.Held.{HeldThree, three}
+use Rattle.thirds.specs.Code.Held.{three}
 use Rattle.thirds.specs.Laws.Groups.{Shown}
 use Rattle.thirds.specs.declared.Group.{Group}
 use Rattle.thirds.specs.declared.Group.TheVariants.{Codes, Coverages, Depths}
-use Rattle.thirds.specs.declared.Trio.{Trio}
 use Rattle.row.specs.declared.Row.{Row}
 use Rattle.rowtext.specs.Reading.{parted, each, read_width, code_group, coverage_group, depth_group}
-use Rattle.rowtext.specs.Code.Filling.{may_stand, alone_group, Filled, HeldWidth}
+use Rattle.rowtext.specs.Code.Filling.{may_stand, alone_group, Filled, FaultAt, HeldWidth}
 use Rattle.rowtext.specs.Laws.Short.{alone-got}
 use Rattle.rowtext.specs.Laws.Tail.{width-laws}
 
@@ -40,9 +39,9 @@ pub some_left : (m : List ℕ) → (length m ≡ 0 → ⊥) → is_empty m ≡ f
 some_left [] h = absurd (h refl)
 some_left (x ∷ m) h = refl
 
--- a group that is at fault is so at its first byte
-pub faulted : (k : List ℕ) {m : List ℕ} {n : Refusal} {f : Fault} {o : Out (Row × List ℕ)} → f.refusal ≡ n → Reached m (skip k) f.place → o ≡ refuse (number n) (skip k) → Filled m o (Err f)
-faulted k e p q = record { within = p.within; says = rw (e, p.left) q }
+-- the part that k should be is at fault
+pub faulted : {m k : List ℕ} {n : Refusal} {f : Fault} {o : Out (Row × List ℕ)} → FaultAt m k n f → o ≡ refuse (number n) (skip k) → Filled m o (Err f)
+faulted f q = record { within = f.place.within; says = rw (f.refused, f.place.left) q }
 
 -- the groups that are read by themselves
 pub codes_alone : (m : List ℕ) → code_group m ≡ alone_group Codes m
@@ -77,9 +76,9 @@ module _ (g : Group) {s f : List ℕ → Type 0} (L : Laws (Shown g) (group_piec
   pub shown : {t : Three} {r : List ℕ} → read_group g k ≡ got t r → Shown g t
   shown e = (L.sound {m = k} e).0
 
-  pub alone-shown : {m : List ℕ} {r : Trio} → HeldThree m (alone_group g k) (Some r) → Shown g (three r.numbers)
+  pub alone-shown : {t : Three} {r : List ℕ} → alone_group g k ≡ got t r → Shown g t
   unfolding alone_group
-  alone-shown h = shown (alone-got (read_group g k) (each (may_stand g)) h.says)
+  alone-shown e = shown (alone-got (read_group g k) (each (may_stand g)) e)
 
 -- a width that is there, or none
 abbrev some_width : List ℕ → Got ℕ

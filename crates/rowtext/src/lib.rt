@@ -5,10 +5,9 @@
 ghost use Rattle.std.specs.Prelude.{◌≡◌, ◌≤◌, leb, length, drop, IfSome};
 ghost use Rattle.text.specs.Choice.{all};
 ghost use Rattle.text.specs.Piece.{canonical};
-ghost use Rattle.text.specs.Read.{skip};
 ghost use Rattle.text.specs.Out.{taken};
 ghost use Rattle.text.specs.Put.{Put};
-ghost use Rattle.text.specs.Code.Held.{Held, Reached};
+ghost use Rattle.text.specs.Code.Held.{Held};
 ghost use Rattle.runway.specs.Code.Held.{HeldRunway};
 ghost use Rattle.surface.specs.Third.{valid_coverage, valid_depth};
 ghost use Rattle.thirds.specs.Groups.{highest};
@@ -17,7 +16,7 @@ ghost use Rattle.thirds.specs.Laws.Groups.{Shown};
 ghost use Rattle.rowtext.specs.Text.{field, group_of, middle_pieces, width_pieces, row_pieces};
 ghost use Rattle.rowtext.specs.Reading.{parted, each, time_group, runway_group, find_row, row_answer};
 ghost use Rattle.rowtext.specs.Writing.{row_text, WroteRow};
-ghost use Rattle.rowtext.specs.Code.Filling.{with_number, with_group, with_rest, may_stand, alone_group, judged, full_rest, fill_group, Filled, HeldWidth};
+ghost use Rattle.rowtext.specs.Code.Filling.{with_number, with_group, with_rest, may_stand, alone_group, judged, full_rest, fill_group, Filled, FaultAt, HeldWidth};
 
 use fill::{put, put_digits};
 use row::{HIGHEST_RUNWAY, Row, blank_row, is_short, valid_row};
@@ -59,15 +58,11 @@ pub struct Step {
     pub next: usize,
 }
 
-// The part that should follow the place `at` is at fault: at its first byte, or at the end where it is missing.
+// A refusal of the part that should follow the place `at`: told at its first byte, or at the end where it is missing.
 fn fault(refusal: Refusal, s: &[u8], at: usize) -> Fault
-    ensures refused { result.refusal ≡ refusal }
-    ensures place { Reached s.now (skip (drop at s.now)) result.place }
+    ensures { FaultAt s.now (drop at s.now) refusal result }
 {
-    Fault {
-        refusal,
-        place: spaces(s, at),
-    }
+    refusal.at(spaces(s, at))
 }
 
 // A space stands at the place, or the line ends there: what is glued to a group belongs to it.
@@ -90,10 +85,9 @@ fn time_group(s: &[u8]) -> Option<Found>
 fn time_into(row: Row, s: &[u8]) -> Result<Step, Fault>
     ensures { Filled s.now (fill_group Part.Time row s.now) result }
 {
-    let time = time_group(s).ok_or(Fault {
-        refusal: Refusal::NoRow,
-        place: 0,
-    })?;
+    let Some(time) = time_group(s) else {
+        return Err(Refusal::NoRow.at(0));
+    };
     Ok(Step {
         row: Row {
             time: time.value,
@@ -116,7 +110,9 @@ fn runway_group(s: &[u8]) -> Option<RunwayFound>
 fn runway_into(row: Row, s: &[u8]) -> Result<Step, Fault>
     ensures { Filled s.now (fill_group Part.Runway row s.now) result }
 {
-    let runway = runway_group(s).ok_or_else(|| fault(Refusal::WrongRunway, s, 0))?;
+    let Some(runway) = runway_group(s) else {
+        return Err(fault(Refusal::WrongRunway, s, 0));
+    };
     Ok(Step {
         row: Row {
             number: runway.number,
@@ -196,7 +192,9 @@ fn with_group(group: Group, row: Row, numbers: [u32; 3]) -> Row
 fn codes_into(row: Row, s: &[u8]) -> Result<Step, Fault>
     ensures { Filled s.now (fill_group Part.Codes row s.now) result }
 {
-    let codes = alone_group(Group::Codes, s, 0).ok_or_else(|| fault(Refusal::WrongCodes, s, 0))?;
+    let Some(codes) = alone_group(Group::Codes, s, 0) else {
+        return Err(fault(Refusal::WrongCodes, s, 0));
+    };
     Ok(Step {
         row: with_group(Group::Codes, row, codes.numbers),
         next: codes.next,
@@ -260,21 +258,15 @@ fn full_into(row: Row, s: &[u8]) -> Option<Step>
 fn full_fault(row: Row, s: &[u8]) -> Result<Step, Fault>
     ensures { Filled s.now (full_rest row s.now) result }
 {
-    let v = alone_group(Group::Coverages, s, 0).ok_or_else(|| fault(
-        Refusal::WrongCoverageOrDepth,
-        s,
-        0,
-    ))?;
-    let d = alone_group(Group::Depths, s, v.next).ok_or_else(|| fault(
-        Refusal::WrongCoverageOrDepth,
-        s,
-        v.next,
-    ))?;
-    let k = read_group(Group::Descriptions, s, d.next).ok_or_else(|| fault(
-        Refusal::WrongDescriptions,
-        s,
-        d.next,
-    ))?;
+    let Some(v) = alone_group(Group::Coverages, s, 0) else {
+        return Err(fault(Refusal::WrongCoverageOrDepth, s, 0));
+    };
+    let Some(d) = alone_group(Group::Depths, s, v.next) else {
+        return Err(fault(Refusal::WrongCoverageOrDepth, s, v.next));
+    };
+    let Some(k) = read_group(Group::Descriptions, s, d.next) else {
+        return Err(fault(Refusal::WrongDescriptions, s, d.next));
+    };
     let row = with_rest(row, v.numbers, d.numbers, k.numbers);
     judged(row, s, v.next, k.next)
 }

@@ -26,7 +26,7 @@ returns-then-not-is_short c =
     let w = c.width-w in
     let e = drop_of_length-le m c.if-s-w.true in
     let is = short-filled c.args.row c.with_rest-t.result m c.in-Some-read_group.ensures.says (w.ensures.says ∙ ap (λ (k : List ℕ). got w.result.value k) e) c.with_rest-t.ensures in
-    faulted m c.fault.ensures.refused c.fault.ensures.place (is ∙ rw (sym c.is_short.ensures ∙ c.if-not-is_short.true))
+    faulted c.fault.ensures (is ∙ rw (sym c.is_short.ensures ∙ c.if-not-is_short.true))
 
 pub returns-then-s-w : goal.returns-then-s-w
 unfolding fill_group

@@ -1,4 +1,4 @@
-use Rattle.std.proofs.Common.{rules, drop, drop_of_length-le, sym, ◌∙◌}
+use Rattle.std.proofs.Common.{rules, drop_of_length-le, sym, ◌∙◌}
 use Rattle.rowtext.specs.Reading.{parted, width_group}
 use Rattle.rowtext.specs.Code.Filling.{fill_group}
 use Rattle.rowtext.proofs.Steps.{faulted, some_left, left_over}
@@ -18,6 +18,6 @@ returns c =
     let w = c.width-w in
     let f = c.fault.ensures in
     elim c.if-parted.branch [
-      | then-parted b ↦ faulted (drop w.result.next m) f.refused (rw b.at-is at f.place) (rw (some_left m (search rules), w.ensures.says, sym c.parted.ensures ∙ b.if-parted.true, left_over m w.result.next c.if-s-w.false))
-      | else-parted b ↦ faulted m f.refused (rw b.at-is at f.place) (rw (some_left m (search rules), w.ensures.says, sym c.parted.ensures ∙ b.if-parted.false))
+      | then-parted b ↦ faulted (rw b.at-is at f) (rw (some_left m (search rules), w.ensures.says, sym c.parted.ensures ∙ b.if-parted.true, left_over m w.result.next c.if-s-w.false))
+      | else-parted b ↦ faulted (rw b.at-is at f) (rw (some_left m (search rules), w.ensures.says, sym c.parted.ensures ∙ b.if-parted.false))
     ]

@@ -4,6 +4,8 @@ use Rattle.text.specs.Choice.{all, is_empty}
 use Rattle.text.specs.Read.{Got, got, skip, read_seq, read_if}
 use Rattle.text.specs.Out.{Out, refuse, taken, next, fit, demand}
 use Rattle.text.specs.declared.Found.{Found}
+use Rattle.text.specs.Code.Held.{Reached}
+use Rattle.text.specs.declared.refusal.Refusal.{Refusal}
 use Rattle.text.specs.declared.refusal.Fault.{Fault}
 use Rattle.text.specs.Refusals.{no_row, wrong_runway, wrong_codes, wrong_coverage_or_depth, wrong_descriptions, wrong_width, number}
 use Rattle.surface.specs.Third.{is_code, valid_coverage, valid_depth}
@@ -114,6 +116,11 @@ answered m (Err f) = refuse (number f.refusal) (drop f.place m)
 pub record Filled (m : List ℕ) (o : Out (Row × List ℕ)) (r : Result Step Fault) : Type 0 where
   pub within : place_of r ≤ length m
   pub says : o ≡ answered m r
+
+-- the fault f of the part that k should be, an end of m: at its first byte
+pub record FaultAt (m k : List ℕ) (refusal : Refusal) (f : Fault) : Type 0 where
+  pub refused : f.refusal ≡ refusal
+  pub place : Reached m (skip k) f.place
 
 -- a width is always found: none is one
 pub record HeldWidth (m k : List ℕ) (r : Found) : Type 0 where
