@@ -8,7 +8,8 @@ use Rattle.frontlines.specs.declared.Filing.{Filing}
 use Rattle.frontlines.specs.declared.Title.{Title}
 use Rattle.frontlines.specs.Addresses.{read_addresses, addresses_pieces}
 use Rattle.frontlines.specs.Filing.{read_filing, filing_pieces}
-use Rattle.frontlines.specs.Heading.{Heading, aerodrome_size, read_heading, read_serial_line, read_aerodrome, heading_pieces, serial_pieces, aerodrome_pieces}
+use Rattle.frontlines.specs.declared.Heading.{Heading}
+use Rattle.frontlines.specs.Heading.{aerodrome_size, read_heading, read_serial_line, read_aerodrome, heading_pieces, serial_pieces, aerodrome_pieces}
 use Rattle.frontlines.specs.Code.Answers.{zeros, blank_addresses, blank_filing, blank_title}
 use Rattle.text.specs.Out.{Out, refuse, taken, next, fit}
 use Rattle.front.specs.declared.Front.{Front}
