@@ -1,12 +1,14 @@
 -- Spaces counted eight at a time: the number of eight bytes less that of eight spaces ends in as many zero bytes as there are spaces in front.
-use Rattle.std.proofs.Common.{◌≡◌, ℕ, zero, suc, ◌+◌, ◌*◌, ◌/◌, ◌%◌, ◌<◌, ◌≤◌, Bool, true, false, cond, eqb, ltb, List, [], ◌∷◌, length, get_or, take, drop, sym, refl, ap, ◌∙◌, arith, length-drop, length-take, drop-cons, drop-drop, ltb-true, lt-ltb, eqb-true}
+use Rattle.std.proofs.Common.{◌≡◌, ℕ, zero, suc, ◌+◌, ◌-◌, ◌*◌, ◌/◌, ◌%◌, ◌<◌, ◌≤◌, Bool, true, false, cond, eqb, List, [], ◌∷◌, length, get_or, take, drop, sym, refl, ap, ◌∙◌, arith, length-drop, length-take, drop-cons, drop-drop, drop_of_length-le, ltb-true, lt-ltb, eqb-true}
 use lib.Count.{count_trailing_zeros, under}
 use borrow.Author.Tests.{eqb-false}
-use Rattle.text.specs.Choice.{◌and◌, all}
+use Rattle.text.specs.Choice.{all}
 use Rattle.text.specs.Names.{run, past, is_space}
 use Rattle.text.specs.Code.Held.{Reached, low_first, is_byte}
 use Rattle.text.specs.Laws.Base.{and-1, and-2, and_i}
 use Rattle.text.specs.Laws.Runs.{run-all}
+use Rattle.text.specs.Laws.Held.{part-all}
+use Rattle.std.specs.Array.{IsFirstChunk}
 use Rattle.text.specs.Laws.Passed.{block_in, past-block}
 
 -- j digits more
@@ -94,7 +96,7 @@ bytes-are (x ∷ l) h = and_i (lt-ltb x 256 (h 0)) (bytes-are l (λ i. h (suc i)
 -- eight bytes, and how many of them are spaces in front
 pub leading-spaces : (l : List ℕ) (v : ℕ) → length l ≡ 8 → ((i : ℕ) → get_or l i 0 < 256)
     → v ≡ get_or l 0 0 + get_or l 1 0 * 256 + get_or l 2 0 * 65536 + get_or l 3 0 * 16777216 + get_or l 4 0 * 4294967296 + get_or l 5 0 * 1099511627776
-        + get_or l 6 0 * 281474976710656 + get_or l 7 0 * 72057594037927936
+    + get_or l 6 0 * 281474976710656 + get_or l 7 0 * 72057594037927936
     → v < 18446744073709551616
     → count_trailing_zeros 64 ((v + 16131858542891098080) % 18446744073709551616) / 8 ≡ length (run is_space l)
 leading-spaces l v n b e w =
@@ -140,3 +142,14 @@ module _ (m : List ℕ) (j : ℕ) (w : j + 8 ≤ length m) {n : ℕ} (e : n ≡ 
 
   pub spaces-on : 8 ≤ n → past is_space (drop (j + 8) m) ≡ past is_space (drop j m)
   spaces-on h = (past-block is_space m j 8 (omega arith) refl (block_in is_space 8 (drop j m) eight-left ∙ run-all is_space (take 8 (drop j m)) (rw length-take (omega arith)))).1
+
+-- the first eight bytes of what is left at j
+module _ (m : List ℕ) (j : ℕ) (b : List ℕ) (h : IsFirstChunk (take (length m - j) (drop j m)) b 8) where
+  rest : take (length m - j) (drop j m) ≡ drop j m
+  rest = part-all j m
+
+  pub chunk-within : j + 8 ≤ length m
+  chunk-within = let e = rw rest at h.enough in omega (arith, e, length-drop j m)
+
+  pub chunk-is : b ≡ take 8 (drop j m)
+  chunk-is = h.same ∙ ap (take 8) rest

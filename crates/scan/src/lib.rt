@@ -2,7 +2,7 @@
 
 #![tactic(auto)]
 
-ghost use Rattle.std.specs.Prelude.{◌≡◌, ◌+◌, ◌<◌, ◌≤◌, length, take, drop, if◌then◌else◌, nat_le};
+ghost use Rattle.std.specs.Prelude.{◌≡◌, ◌⊎◌, ◌+◌, ◌-◌, MatchOption, ◌<◌, ◌≤◌, length, take, drop, if◌then◌else◌, nat_le};
 ghost use Rattle.text.specs.Choice.{all, same_bytes};
 ghost use Rattle.text.specs.Arrays.{is_zero};
 ghost use Rattle.text.specs.Read.{guard, skip, read_word};
@@ -93,6 +93,16 @@ pub fn word(s: &[u8], i: usize, t: &[u8], v: u32) -> Option<Found>
     Some(Found { value: v, next: j })
 }
 
+fn digit(b: u8) -> Option<u32>
+    ensures { MatchOption result ((b < 48) ⊎ (57 < b)) (λ d. (48 ≤ b) × (b ≤ 57) × (d ≡ b - 48)) }
+{
+    if matches!(b, b'0'..=b'9') {
+        Some(u32::from(b - b'0'))
+    } else {
+        None
+    }
+}
+
 // The number in `n` digits at `i`; more than nine are none.
 pub fn digits(s: &[u8], i: usize, n: usize) -> Option<Found>
     ensures { Held s.now (guard (nat_le n 9) (read_digits n (drop i s.now))) result }
@@ -103,10 +113,7 @@ pub fn digits(s: &[u8], i: usize, n: usize) -> Option<Found>
     }
     let mut value = 0;
     for &b in &s[start..start + n] {
-        if !matches!(b, b'0'..=b'9') {
-            return None;
-        }
-        value = value * 10 + u32::from(b - b'0');
+        value = value * 10 + digit(b)?;
     }
     Some(Found {
         value,

@@ -1,4 +1,4 @@
-use Rattle.std.proofs.Common.{◌≡◌, ◌∙◌, sym, ap, take, drop, length}
+use Rattle.std.proofs.Common.{◌∙◌, sym, ap, take, drop, length}
 use Rattle.text.specs.Choice.{all}
 use Rattle.text.specs.Laws.Held.{part-all}
 use Rattle.text.specs.Laws.Passed.{block_in, block_out}

@@ -1,4 +1,4 @@
-use Rattle.std.proofs.Common.{ℕ, ◌∙◌, sym, ap, take}
+use Rattle.std.proofs.Common.{◌∙◌, sym, ap, take}
 use Rattle.text.specs.Choice.{◌and◌, all}
 use Rattle.text.specs.Laws.Base.{and_none, and-true}
 use Rattle.text.specs.Laws.Passed.{all_more}

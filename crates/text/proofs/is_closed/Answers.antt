@@ -1,4 +1,4 @@
-use Rattle.std.proofs.Common.{◌≡◌, ◌∙◌, ◌-◌, length, get_or, sym, arith, eq-eqb, ne_eqb}
+use Rattle.std.proofs.Common.{◌∙◌, ◌-◌, length, get_or, sym, arith, eq-eqb, ne_eqb}
 use Rattle.text.proofs.Lines.{closed-last, closed_none}
 use Rattle.text.proofs.is_closed.Goals as goal
 

@@ -1,5 +1,5 @@
 -- The invariant: so many lines lie before the place.
-use Prim.Native.Nat.{◌≤◌, ◌-◌}
+use Prim.Native.Nat.{◌≤◌}
 use mathlib.Core.Path.{◌≡◌}
 use lib.ListN.{length}
 use Rattle.text.specs.Lines.{lines_size}

@@ -1,5 +1,4 @@
 use Rattle.std.proofs.Common.{◌≡◌, ◌∙◌, sym, ap, arith, length}
-use Rattle.std.proofs.Math.Seq.{drop-length}
 use Rattle.text.specs.Names.{past}
 use Rattle.text.specs.Laws.Passed.{past_stop, past-on, past_off}
 use Rattle.text.proofs.past.Goals as goal

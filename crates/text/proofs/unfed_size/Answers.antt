@@ -1,12 +1,9 @@
 use native.Mathlib.Omega.{arith}
-use mathlib.Core.Path.{refl, sym, ◌∙◌, ap}
-use mathlib.Core.Bool.{not}
+use mathlib.Core.Path.{refl, sym, ◌∙◌}
 use borrow.Author.Rules.{rules}
-use borrow.Author.Tests.{eq-eqb, ne_eqb}
 use Rattle.text.specs.Code.Held.{is_unfed}
-use Rattle.text.specs.Laws.Passed.{past_stop, past-on, past_off, past-block}
+use Rattle.text.specs.Laws.Passed.{past-block}
 use Rattle.text.proofs.unfed_size.Goals as goal
-
 
 pub loop-i-init : goal.loop-i-init
 loop-i-init c = (search rules, refl)

@@ -1,5 +1,5 @@
 -- What the library answers of lists, in the words of text `Choice`: `iter().all`, `iter().any`, `contains` and `==`.
-use Rattle.std.specs.Prelude.{ℕ, zero, suc, ◌<◌, ◌≡◌, refl, List, [], ◌∷◌, Bool, true, false, cond, ◌&&◌, ◌||◌, ◌↔◌, not, nat_eq, eqb, length, IsTrue, EachIndex, slice_index_or}
+use Rattle.std.specs.Prelude.{ℕ, zero, suc, ◌≡◌, refl, List, [], ◌∷◌, Bool, true, false, cond, ◌&&◌, ◌||◌, ◌↔◌, nat_eq, IsTrue, EachIndex, slice_index_or}
 use Rattle.std.proofs.Common.{sym, ◌∙◌, ap, arith}
 use Rattle.std.specs.List.{list_all, list_any}
 use Rattle.std.specs.Cmp.Lexicographic.{pointwise}
