@@ -17,7 +17,8 @@ use Rattle.text.specs.Put.{Put, told, farthest}
 use Rattle.text.specs.Laws.Put.{canonical-append, told-near, told-far}
 use Rattle.frontlines.specs.Addresses.{priority_name, address_pieces}
 use Rattle.frontlines.specs.Filing.{filing_pieces}
-use Rattle.frontlines.specs.Heading.{Heading, designator_pieces, heading_pieces, serial_pieces}
+use Rattle.frontlines.specs.declared.Heading.{Heading}
+use Rattle.frontlines.specs.Heading.{designator_pieces, heading_pieces, serial_pieces}
 use Rattle.frontlines.specs.declared.Filing.{Filing}
 
 -- a text that is put leaves the buffer as long as it was

@@ -7,7 +7,7 @@ use Rattle.text.specs.Numbers.{digits, read_digits}
 use Rattle.runway.specs.Time.{real_time}
 use Rattle.frontlines.specs.Letters.{read_letters, is_letters}
 use Rattle.frontlines.specs.declared.Title.{Title}
-pub use Rattle.frontlines.specs.declared.Heading.{Heading}
+use Rattle.frontlines.specs.declared.Heading.{Heading}
 
 -- "two letters"
 abbrev pub region_size : ℕ

@@ -12,7 +12,8 @@ use Rattle.runway.specs.Time.{is_short_month, days_of, real_day, real_clock, rea
 use Rattle.frontlines.specs.Letters.{is_letters}
 use Rattle.frontlines.specs.Addresses.{addresses_of, make_addresses, addresses_pieces, read_addresses, valid_addresses}
 use Rattle.frontlines.specs.Filing.{real_filing, filing_pieces, read_filing, valid_filing}
-use Rattle.frontlines.specs.Heading.{Heading, read_designator, heading_pieces, read_heading, valid_title, valid_heading, serial_pieces, read_serial_line}
+use Rattle.frontlines.specs.declared.Heading.{Heading}
+use Rattle.frontlines.specs.Heading.{read_designator, heading_pieces, read_heading, valid_title, valid_heading, serial_pieces, read_serial_line}
 use Rattle.frontlines.specs.Heading.{aerodrome_pieces, read_aerodrome}
 use Rattle.frontlines.specs.Code.Answers.{blank_addresses, blank_filing, blank_title, found, list_answer, region_at}
 

@@ -24,7 +24,7 @@ use text::{Class, Found, Span};
 
 // Line 1. Zeros stand past the last address.
 #[repr(C)]
-#[derive(Clone, Copy)]
+#[derive(Clone, Copy, PartialEq, Eq)]
 pub struct Addresses {
     // 1 GG, 2 DD
     pub priority: u8,
@@ -35,7 +35,7 @@ pub struct Addresses {
 
 // Line 2.
 #[repr(C)]
-#[derive(Clone, Copy)]
+#[derive(Clone, Copy, PartialEq, Eq)]
 pub struct Filing {
     // ddhhmm as a number
     pub time: u32,
@@ -44,7 +44,7 @@ pub struct Filing {
 
 // Line 3 without its time, which a record works out from its rows.
 #[repr(C)]
-#[derive(Clone, Copy)]
+#[derive(Clone, Copy, PartialEq, Eq)]
 pub struct Title {
     pub region: [u8; 2],
     pub serial: u16,

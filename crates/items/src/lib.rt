@@ -10,7 +10,7 @@ ghost use Rattle.text.specs.Put.{Put};
 ghost use Rattle.text.specs.Arrays.{slots};
 ghost use Rattle.items.specs.Item.{taxiway_size, letters, on_runway, highest_for, is_between, runway_fits, amount_fits, edge_fits, count_fits, valid_slot, is_new, slots_fit, taxiways_fit, name_fits, numbers_fit, valid_item};
 ghost use Rattle.items.specs.Awareness.{same_runway, other_apron, may_repeat, may_follow, sound_items, is_blank, no_numbers, blank_item, is_blank_item};
-ghost use Rattle.items.specs.Parts.{holds_items, holds_language};
+ghost use Rattle.items.specs.Parts.{items_of, language_of, holds_items, holds_language};
 ghost use Rattle.items.specs.Language.{valid_language};
 
 pub mod words;
@@ -22,7 +22,7 @@ use text::Class;
 
 // An awareness item, zeros in every field that its letter does not use.
 #[repr(C)]
-#[derive(Clone, Copy)]
+#[derive(Clone, Copy, PartialEq, Eq)]
 pub struct Item {
     // I: the length; M: the distance
     pub amount: u16,
@@ -51,10 +51,37 @@ pub struct Items {
 
 // Up to 400 bytes of plain language, zeros past the length.
 #[repr(C)]
-#[derive(Clone, Copy)]
+#[derive(Clone, Copy, PartialEq, Eq)]
 pub struct Language {
     pub length: u16,
     pub bytes: [u8; 400],
+}
+
+impl Items {
+    // The items that count; the array is all that a wrong count can show.
+    pub fn listed(&self) -> &[Item]
+        ensures { result.now ≡ items_of self.now }
+    {
+        if self.count <= MOST_ITEMS {
+            &self.items[..usize::from(self.count)]
+        } else {
+            &self.items
+        }
+    }
+}
+
+impl Language {
+    // The bytes that count; the array is all that a wrong length can show.
+    pub fn text(&self) -> &[u8]
+        ensures { result.now ≡ language_of self.now }
+    {
+        let length = usize::from(self.length);
+        if length <= MOST_LANGUAGE {
+            &self.bytes[..length]
+        } else {
+            &self.bytes
+        }
+    }
 }
 
 pub const MOST_TAXIWAYS: u8 = 8;

@@ -274,8 +274,8 @@ fn code_for(kind: u8, s: Surface) -> u8
 {
     TABLE_1
         .iter()
-        .find(|e| is_for(**e, kind, s))
-        .map_or(0, |e| e.0)
+        .find(|&&e| is_for(e, kind, s))
+        .map_or(0, |&Entry(code, ..)| code)
 }
 
 // The condition can hold of a surface of which only the reported depth is known.
@@ -299,7 +299,7 @@ fn allows(e: Entry, t: Third) -> bool
 fn is_allowed(t: Third) -> bool
     ensures { result ≡ is_allowed t }
 {
-    TABLE_1.iter().any(|e| allows(*e, t))
+    TABLE_1.iter().any(|&e| allows(e, t))
 }
 
 // The third's code is one that Table 1 allows its description and depth.

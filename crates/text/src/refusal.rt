@@ -76,6 +76,16 @@ impl Refusal {
     {
         self as u8
     }
+
+    // This refusal, told at a place.
+    pub fn at(self, place: usize) -> Fault
+        ensures { result ≡ record { refusal = self; place = place } }
+    {
+        Fault {
+            refusal: self,
+            place,
+        }
+    }
 }
 
 // What refuses a text, and where.

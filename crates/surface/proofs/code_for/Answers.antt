@@ -11,6 +11,5 @@ pub returns : goal.returns
 unfolding table1
 returns c =
     let fits = λ (e : Entry). is_for e c.args.kind (observed c.args.s) in
-    found fits code 0 _ table1 _ c.find.result
-    (find_from_yields_List fits _ _ _ c.find.ensures.ran (YieldsList-from_slice table1 cc) (λ x b q k. search (rules, tests)))
-    c.map_or.ensures (λ b q. search rules)
+    let first = find_from_yields_List fits _ _ c.find.result c.find.ensures.ran (YieldsList-from_slice table1 cc) (λ x b q k. search (rules, tests)) in
+    found fits code 0 _ table1 _ _ first c.map_or.ensures (λ b q. search rules)

@@ -5,7 +5,6 @@ use Rattle.text.specs.Code.Held.{is_unfed}
 use Rattle.text.specs.Laws.Passed.{past-block}
 use Rattle.text.proofs.unfed_size.Goals as goal
 
-
 pub loop-i-init : goal.loop-i-init
 loop-i-init c = (search rules, refl)
 
