@@ -76,6 +76,16 @@ impl Refusal {
     {
         self as u8
     }
+
+    // This refusal, told at a place.
+    pub fn at(self, place: usize) -> Fault
+        ensures { result ≡ record { refusal = self; place = place } }
+    {
+        Fault {
+            refusal: self,
+            place,
+        }
+    }
 }
 
 // What refuses a text, and where.
@@ -84,67 +94,3 @@ pub struct Fault {
     pub refusal: Refusal,
     pub place: usize,
 }
-
-pub const TOO_LONG: u8 = 1;
-
-pub const LINE_1_OR_2: u8 = 2;
-
-pub const LINE_3: u8 = 3;
-
-pub const OUTLINE: u8 = 4;
-
-pub const NO_ROW: u8 = 5;
-
-pub const NINTH_ROW: u8 = 6;
-
-pub const RUNWAY_TWICE: u8 = 7;
-
-pub const WRONG_ITEMS: u8 = 8;
-
-pub const WRONG_LANGUAGE: u8 = 9;
-
-pub const SERIALS_DIFFER: u8 = 10;
-
-pub const AERODROMES_DIFFER: u8 = 11;
-
-pub const NOT_LATEST_TIME: u8 = 12;
-
-pub const INVALID_RECORD: u8 = 13;
-
-pub const BUFFER_TOO_SHORT: u8 = 14;
-
-pub const OUT_OF_RANGE: u8 = 15;
-
-pub const CONTRADICTION: u8 = 16;
-
-pub const WRONG_BOARD: u8 = 17;
-
-pub const NOT_ON_BOARD: u8 = 18;
-
-pub const INVALID_ROW: u8 = 19;
-
-pub const NOT_LATER: u8 = 20;
-
-pub const NO_REPORT: u8 = 21;
-
-pub const OTHERS_RUNWAY: u8 = 22;
-
-pub const NO_DESK: u8 = 23;
-
-pub const WRONG_RUNWAY: u8 = 24;
-
-pub const WRONG_CODES: u8 = 25;
-
-pub const WRONG_COVERAGE_OR_DEPTH: u8 = 26;
-
-pub const WRONG_DESCRIPTIONS: u8 = 27;
-
-pub const WRONG_WIDTH: u8 = 28;
-
-pub const RUNWAYS_DIFFER: u8 = 29;
-
-pub const RECORD_CUT_SHORT: u8 = 30;
-
-pub const NUMBER_FORM: u8 = 31;
-
-pub const RADIO_VALUE: u8 = 32;

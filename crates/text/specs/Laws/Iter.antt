@@ -1,9 +1,10 @@
 -- What the library answers of lists, in the words of text `Choice`: `iter().all`, `iter().any`, `contains` and `==`.
-use Rattle.std.specs.Prelude.{ℕ, ◌<◌, ◌≡◌, refl, List, [], ◌∷◌, Bool, true, false, cond, ◌&&◌, ◌||◌, ◌↔◌, not, nat_eq, eqb, length, IsTrue, EachIndex, slice_index_or}
+use Rattle.std.specs.Prelude.{ℕ, zero, suc, ◌≡◌, refl, List, [], ◌∷◌, Bool, true, false, cond, ◌&&◌, ◌||◌, ◌↔◌, nat_eq, IsTrue, EachIndex, slice_index_or}
 use Rattle.std.proofs.Common.{sym, ◌∙◌, ap, arith}
 use Rattle.std.specs.List.{list_all, list_any}
 use Rattle.std.specs.Cmp.Lexicographic.{pointwise}
 use Rattle.text.specs.Choice.{◌and◌, all, member, same_all, same_bytes}
+use Rattle.text.specs.Laws.Base.{and-1, and-2, and_i, true-false}
 
 -- both words for two tests that hold
 pub and-is : (a b : Bool) → (a && b) ≡ (a and b)
@@ -37,3 +38,21 @@ same-pointwise p (x ∷ xs) (y ∷ ys) = and-is (p x y) (pointwise p xs ys) ∙ 
 
 pub same_answer : (xs ys : List ℕ) {r : Bool} → r ≡ pointwise nat_eq xs ys → r ≡ same_bytes xs ys
 same_answer xs ys e = e ∙ same-pointwise nat_eq xs ys
+
+-- a test that holds at each place holds of all
+each-all : {A : Type 0} (p : A → Bool) (xs : List A) (d : A) → EachIndex xs (λ k. IsTrue (p (slice_index_or xs k d))) → all p xs ≡ true
+each-all p [] d h = refl
+each-all p (x ∷ xs) d h = and_i (h 0 (omega arith)) (each-all p xs d (λ k l. h (suc k) (omega arith)))
+
+all-each-index : {A : Type 0} (p : A → Bool) (xs : List A) (d : A) → all p xs ≡ true → EachIndex xs (λ k. IsTrue (p (slice_index_or xs k d)))
+all-each-index p [] d h k l = absurd (omega arith)
+all-each-index p (x ∷ xs) d h zero l = and-1 _ _ h
+all-each-index p (x ∷ xs) d h (suc k) l = all-each-index p xs d (and-2 _ _ h) k (omega arith)
+
+pub all_each : {A : Type 0} (p : A → Bool) (xs : List A) (d : A) {b : Bool} → (IsTrue b ↔ EachIndex xs (λ k. IsTrue (p (slice_index_or xs k d)))) → b ≡ all p xs
+all_each p xs d {b} h = go b refl (all p xs) refl
+  where
+    go : (u : Bool) → b ≡ u → (v : Bool) → all p xs ≡ v → b ≡ all p xs
+    go true e v f = e ∙ sym (each-all p xs d (h.0 e))
+    go false e false f = e ∙ sym f
+    go false e true f = absurd (true-false (sym (h.1 (all-each-index p xs d f)) ∙ e))
