@@ -1,4 +1,4 @@
+pub mod Iter
 pub mod Places
-pub mod Answers
 pub mod Laws
 pub mod Theorems
