@@ -210,7 +210,7 @@ pub fn valid_board(b: Board) -> bool
 
 // ---- Opening
 
-fn blank_board() -> Board
+pub fn blank_board() -> Board
     ensures { result ≡ blank_board }
 {
     Board {
