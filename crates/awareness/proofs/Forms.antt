@@ -1,36 +1,25 @@
 -- The item behind each opening, step by step.
-use Prim.Native.Nat.{ℕ, zero, suc, ◌-◌, ◌≤◌}
-use mathlib.Core.Path.{◌≡◌, refl, sym, ◌∙◌, ap}
-use mathlib.Core.List.{List, [], ◌∷◌, ◌++◌}
-use mathlib.Core.Bool.{cond, Bool, true, false, not}
-use native.Mathlib.Omega.{arith}
-use lib.Dec.{eqb, leb}
-use lib.ListN.{length, drop, replicate}
-use borrow.Author.Tests.{leb-true, eq-eqb}
+use Rattle.std.specs.Prelude.{ℕ, zero, suc, ◌-◌, ◌≤◌, ◌≡◌, refl, List, [], ◌∷◌, ◌++◌, cond, Bool, true, false, not, eqb, leb, Some, length, drop, replicate}
+use Rattle.std.proofs.Common.{◌∙◌, ap, arith, leb-true, eq-eqb}
 use Rattle.text.specs.Choice.{◌and◌, all, is_empty}
 use Rattle.text.specs.Piece.{bytes}
-use Rattle.text.specs.Read.{Got, misfit, got, guard, and_then, read_text, read_as, read_if, read_gap, read_before, read_word}
+use Rattle.text.specs.Read.{Got, misfit, got, guard, and_then, read_text, read_as, read_if, read_gap, read_before}
 use Rattle.text.specs.Names.{is_name, past, read_name}
 use Rattle.text.specs.Arrays.{is_zero}
-use Rattle.text.specs.Code.Held.{Held}
 use Rattle.text.specs.Laws.Base.{and-1, and-2, and_i, and-true, then-got, carry}
 use Rattle.text.specs.Laws.Arrays.{pad-length, replicate-zeros}
-use Rattle.text.specs.declared.Found.{Found}
 use Rattle.items.specs.declared.Item.{Item}
 use Rattle.items.specs.Item.{letter_j, letter_p, letter_r, on_runway, runway_fits, amount_fits, edge_fits, count_fits, slots_fit, taxiways_fit, name_fits, numbers_fit, valid_item}
 use Rattle.items.specs.ReadItem.{runway_item, taxi_sayings, taxi_saying, taxi_item, read_some_taxiways, read_taxiways, read_taxi_form, is_apron, read_apron, apron_item, read_apron_form, openings, opening_name, bare_item, read_bare_form, read_form, read_body, read_item}
-use Rattle.awareness.specs.Code.Held.{HeldItem, no_item}
-use Rattle.awareness.specs.Code.Named.{in_slots, bare_found}
+use Rattle.awareness.specs.Code.Held.{HeldItem}
+use Rattle.awareness.specs.Code.Named.{in_slots}
 use Rattle.awareness.specs.declared.ItemFound.{ItemFound}
-use Rattle.awareness.specs.Laws.Held.{item_of, misfit-of}
-use Rattle.awareness.proofs.Names.{name-low}
-use Rattle.awareness.proofs.Details.{text-there, text-off}
 use Rattle.awareness.proofs.Named.{gap-before, name-passed}
 
 -- behind RWY: an item with neither taxiways nor a name is valid where its numbers fit
-pub runway-valid : {p : (ℕ × ℕ) × (ℕ × (ℕ × ℕ))} {i : Item} → i ≡ runway_item p → valid_item i ≡ numbers_fit i
+pub runway-valid : (p : (ℕ × ℕ) × (ℕ × (ℕ × ℕ))) → valid_item (runway_item p) ≡ numbers_fit (runway_item p)
 unfolding valid_item taxiways_fit slots_fit name_fits past ◌and◌
-runway-valid {p} e = rw e (go (eqb p.1.0 letter_r))
+runway-valid p = go (eqb p.1.0 letter_r)
   where
     go : (t : Bool) → (numbers_fit (runway_item p) and (true and all is_zero (cond t (past is_name (replicate 16 0)) (replicate 16 0)))) ≡ numbers_fit (runway_item p)
     go true = and-true _
@@ -76,10 +65,6 @@ module _ (m : List ℕ) {c : ℕ} {L k : List ℕ} (e : read_as in_slots (read_s
     pub taxi-said : {l : ℕ} {r : List ℕ} → read_name taxi_saying taxi_sayings k ≡ got l r → read_taxi_form m ≡ got (slot_item l (c, L)) r
     taxi-said q = taxi-form z ∙ rw q
 
-pub taxi-saying-low : (m : List ℕ) {v : ℕ} {r : List ℕ} → read_name taxi_saying taxi_sayings m ≡ got v r → v ≤ 255
-unfolding ◌and◌
-taxi-saying-low m e = name-low taxi_saying taxi_sayings m 255 refl e
-
 -- behind APRON: a name, POOR
 module _ (m : List ℕ) where
   apron-form : read_apron_form m ≡ read_as apron_item (read_before (read_gap read_apron) (bytes " POOR")) m
@@ -93,8 +78,8 @@ module _ (m : List ℕ) where
     pub apron-unsaid : read_text (bytes " POOR") k ≡ misfit → read_apron_form m ≡ misfit
     apron-unsaid q = apron-form ∙ rw (e, q)
 
-    pub apron-said : {r : List ℕ} → read_text (bytes " POOR") k ≡ got tt r → read_apron_form m ≡ got (apron_item w) r
-    apron-said q = apron-form ∙ rw (e, q)
+    pub apron-said : (r : List ℕ) → read_text (bytes " POOR") k ≡ got tt r → read_apron_form m ≡ got (apron_item w) r
+    apron-said r q = apron-form ∙ rw (e, q)
 
     pub short-apron : length w ≤ 16
     unfolding read_apron
@@ -118,13 +103,10 @@ pub bare-valid : (valid_item (bare_item letter_j) ≡ true) × (valid_item (bare
 unfolding valid_item numbers_fit runway_fits amount_fits edge_fits count_fits on_runway taxiways_fit slots_fit name_fits past ◌and◌
 bare-valid = (refl, refl, refl)
 
-pub held-bare : {m : List ℕ} (l i : ℕ) {r : ItemFound} → i ≤ length m → valid_item (bare_item l) ≡ true → r ≡ bare_found l i → HeldItem m (read_if valid_item (read_bare_form l) (drop i m)) r
+pub held-bare : {m : List ℕ} (l i : ℕ) {r : ItemFound} → r.item ≡ bare_item l → r.next ≡ i → i ≤ length m → valid_item (bare_item l) ≡ true
+    → HeldItem m (read_if valid_item (read_bare_form l) (drop i m)) (Some r)
 unfolding read_bare_form
-held-bare {m} l i {r} h v e = record {
-  within = rw e h;
-  says = ap (λ (t : Bool). guard t (got (bare_item l) (drop i m))) v ∙ sym (ap (λ (q : ItemFound). cond q.fits (got q.item (drop q.next m)) misfit) e);
-  blank = e ∙ sym (ap (λ (q : ItemFound). cond q.fits q no_item) e);
-}
+held-bare l i e n h v = record { within = rw n h; says = rw (v, e, n) }
 
 -- an item without its full stop
 module _ (m : List ℕ) where
@@ -140,8 +122,8 @@ module _ (m : List ℕ) where
       go misfit = refl
       go (got i r) = refl
 
-  pub opened : {a : ℕ} {k : List ℕ} → read_name opening_name openings m ≡ got a k → read_if valid_item read_body m ≡ read_if valid_item (read_form a) k
-  opened e = rw (body-opened e)
+  pub opened : (a : ℕ) (k : List ℕ) → read_name opening_name openings m ≡ got a k → read_if valid_item read_body m ≡ read_if valid_item (read_form a) k
+  opened a k e = rw (body-opened e)
 
 -- a test comes before a text as well as behind it
 if-before : {A : Type 0} (p : A → Bool) (f : List ℕ → Got A) (t m : List ℕ) → read_if p (read_before f t) m ≡ read_before (read_if p f) t m
@@ -167,14 +149,14 @@ stop-last : (m : List ℕ) → read_item m ≡ read_before (read_if valid_item r
 unfolding read_item
 stop-last m = if-before valid_item read_body (bytes ".") m
 
--- the answers that the code has of an item: what stands before its full stop, and the stop
-module _ {l : List ℕ} (at : ℕ) {b : ItemFound} (h : HeldItem l (read_if valid_item read_body (drop at l)) b) where
-  pub no_body : b.fits ≡ false → read_item (drop at l) ≡ misfit
-  no_body x = stop-last (drop at l) ∙ rw (misfit-of b h x)
+-- what stands before an item's full stop, and the stop
+module _ (m : List ℕ) where
+  pub no_body : read_if valid_item read_body m ≡ misfit → read_item m ≡ misfit
+  no_body e = stop-last m ∙ rw e
 
-  module _ (x : b.fits ≡ true) {w : Found} (s : Held l (read_word (bytes ".") 0 (drop b.next l)) w) where
-    pub no_stop : w.fits ≡ false → read_item (drop at l) ≡ misfit
-    no_stop y = stop-last (drop at l) ∙ rw (item_of b h x, text-off (bytes ".") (drop b.next l) 0 s y)
+  module _ {i : Item} {k : List ℕ} (e : read_if valid_item read_body m ≡ got i k) where
+    pub no_stop : read_text (bytes ".") k ≡ misfit → read_item m ≡ misfit
+    no_stop q = stop-last m ∙ rw (e, q)
 
-    pub stopped : w.fits ≡ true → read_item (drop at l) ≡ got b.item (drop w.next l)
-    stopped y = stop-last (drop at l) ∙ rw (item_of b h x, text-there (bytes ".") (drop b.next l) 0 s y)
+    pub stopped : {r : List ℕ} → read_text (bytes ".") k ≡ got tt r → read_item m ≡ got i r
+    stopped q = stop-last m ∙ rw (e, q)

@@ -1,7 +1,7 @@
+pub mod Back
 pub mod Names
 pub mod Details
 pub mod Named
 pub mod Slots
 pub mod Forms
-pub mod Back
 pub mod LineReading

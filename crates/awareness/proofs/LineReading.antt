@@ -1,12 +1,7 @@
 -- The awareness line read item by item.
-use Prim.Native.Nat.{ℕ, zero, suc, ◌+◌, ◌-◌, ◌<◌, ◌≤◌}
-use mathlib.Core.Path.{◌≡◌, refl, sym, ◌∙◌, ap}
-use mathlib.Core.List.{List, [], ◌∷◌, ◌++◌, append_assoc, append-nil}
-use mathlib.Core.Bool.{true, false}
-use native.Mathlib.Numerals.{add-one}
-use native.Mathlib.Omega.{arith}
-use lib.ListN.{length, take, drop, set, replicate, get_or, length-take, drop_of_length-le}
-use lib.Seq.{drop-cons, length-take-le, take-suc-set}
+use Rattle.std.specs.Prelude.{ℕ, zero, suc, ◌+◌, ◌-◌, ◌<◌, ◌≤◌, ◌≡◌, refl, List, [], ◌∷◌, ◌++◌, true, false, Some, length, take, drop, set, replicate, get_or}
+use Rattle.std.proofs.Common.{sym, ◌∙◌, ap, append_assoc, append-nil, add-one, arith, length-take, drop_of_length-le, drop-cons, length-take-le}
+use lib.Seq.{take-suc-set}
 use Rattle.text.specs.Arrays.{pad}
 use Rattle.text.specs.Read.{Got, misfit, got, guard, and_then, whole, skip, one_more, read_text, read_loose, read_many}
 use Rattle.text.specs.Names.{read_name}
@@ -99,11 +94,11 @@ module _ {l : List ℕ} {items : List Item} {count behind at : ℕ} (s : SoFar l
   counted = let f = s.few in length-take-le count items (omega (arith, size))
 
   -- nothing is left behind the last item
-  pub ends : length l ≤ behind → items_answer (whole_awareness l) ≡ record { fits = true; count = count; items = items }
+  pub ends : length l ≤ behind → items_answer (whole_awareness l) ≡ Some (record { count = count; items = items })
   ends h =
       let b = drop_of_length-le l h in
       let e : whole_awareness l ≡ got is [] = s.left ∙ rw (b, s.ended b, none_more) (none_left is s.order) in
-      rw e (λ j. record { fits = true; count = counted j; items = sym s.kept j })
+      rw e (λ j. Some (record { count = counted j; items = sym s.kept j }))
 
   module _ (h : behind < length l) where
     next-byte : drop behind l ≡ get_or l behind 0 ∷ drop (suc behind) l

@@ -1,27 +1,31 @@
 -- Names behind a gap: where they stand, and what they are tested for.
-use Prim.Native.Nat.{ℕ, ◌+◌, ◌-◌}
-use mathlib.Core.Path.{◌≡◌, refl, sym, ◌∙◌, ap}
-use mathlib.Core.List.{List, [], ◌∷◌}
-use mathlib.Core.Bool.{cond, Bool, true, false}
-use native.Mathlib.Omega.{arith}
-use lib.ListN.{length, take, drop}
+use Rattle.std.specs.Prelude.{ℕ, ◌+◌, ◌-◌, ◌≤◌, ◌≡◌, refl, List, [], ◌∷◌, Bool, true, false, length, take, drop}
+use Rattle.std.proofs.Common.{sym, ◌∙◌, ap, arith, length-append, length-drop}
 use lib.Seq.{drop-drop}
 use Rattle.text.specs.Choice.{all}
 use Rattle.text.specs.Read.{Got, misfit, got, guard, and_then, read_text, read_gap, read_if, read_before}
 use Rattle.text.specs.Names.{is_name, past, read_run}
-use Rattle.text.specs.Code.Held.{Reached, Spanned, no_span}
+use Rattle.text.specs.Code.Held.{Reached}
 use Rattle.text.specs.Laws.Base.{then-got, guard-got, carry}
-use Rattle.text.specs.Laws.Held.{part-all}
-use Rattle.text.specs.declared.Span.{Span}
-use Rattle.text.specs.Laws.Runs.{run_in, run-taken}
+use Rattle.text.specs.Laws.Runs.{run_past, run_in, run-taken}
 
 -- a run of bytes from a place on
-pub run-span : (p : ℕ → Bool) (m : List ℕ) (i : ℕ) {n : ℕ} → Reached (take (length m - i) (drop i m)) (past p (take (length m - i) (drop i m))) n
-    → read_run p (drop i m) ≡ got (take (i + n - i) (drop i m)) (drop (i + n) m)
-run-span p m i {n} h =
-    let z : i + n - i ≡ n = omega arith in
-    let q = rw part-all at h in
-    rw (z, run-taken p (drop i m) q, ← drop-drop n i m, q.left)
+module _ (p : ℕ → Bool) (m : List ℕ) (i : ℕ) {n : ℕ} (within : i ≤ length m) (h : Reached m (past p (drop i m)) n) where
+  pub run-ordered : i ≤ n
+  run-ordered =
+      let whole = ap length (run_past p (drop i m)) in
+      let left = ap length h.left in
+      omega (arith, h.within, rw length-append at whole, rw length-drop at left, length-drop i m)
+
+  pub run-span : read_run p (drop i m) ≡ got (take (n - i) (drop i m)) (drop n m)
+  run-span =
+      let o = run-ordered in
+      let e : i + (n - i) ≡ n = omega arith in
+      let inner : Reached (drop i m) (past p (drop i m)) (n - i) = record {
+        within = rw length-drop (omega (arith, h.within));
+        left = drop-drop (n - i) i m ∙ rw e h.left;
+      } in
+      rw (run-taken p (drop i m) inner, h.left)
 
 -- a gap comes before a test, and before what follows
 module _ {A : Type 0} (f : List ℕ → Got A) (m : List ℕ) where
@@ -39,40 +43,17 @@ module _ {A : Type 0} (f : List ℕ → Got A) (m : List ℕ) where
       go misfit = refl
       go (got u k) = refl
 
--- an answer that fits, and one that does not
-module _ {m : List ℕ} {g : Got (List ℕ)} {r : Span} (h : Spanned m g r) where
-  pub name-there : r.fits ≡ true → g ≡ got (take (r.next - r.start) (drop r.start m)) (drop r.next m)
-  name-there e = h.says ∙ ap (λ (b : Bool). cond b (got (take (r.next - r.start) (drop r.start m)) (drop r.next m)) misfit) e
-
-  pub name-off : r.fits ≡ false → g ≡ misfit
-  name-off e = h.says ∙ ap (λ (b : Bool). cond b (got (take (r.next - r.start) (drop r.start m)) (drop r.next m)) misfit) e
-
-unnamed : {m : List ℕ} {g : Got (List ℕ)} → g ≡ misfit → Spanned m g no_span
-unnamed e = record { ordered = omega arith; within = omega arith; says = e; blank = refl }
-
 -- the name behind a gap, held against a test
-module _ (p : List ℕ → Bool) (m k : List ℕ) {r : Span} (h : Spanned m (read_gap (read_run is_name) k) r) where
-  pub no_name : r.fits ≡ false → read_gap (read_if p (read_run is_name)) k ≡ misfit
-  no_name e = gap-if (read_run is_name) k p ∙ rw (name-off h e)
+module _ (p : List ℕ → Bool) (m : List ℕ) where
+  pub none_named : read_gap (read_run is_name) m ≡ misfit → read_gap (read_if p (read_run is_name)) m ≡ misfit
+  none_named e = gap-if (read_run is_name) m p ∙ rw e
 
-  pub none_named : r.fits ≡ false → Spanned m (read_gap (read_if p (read_run is_name)) k) no_span
-  none_named e = unnamed (no_name e)
+  module _ {w r : List ℕ} (e : read_gap (read_run is_name) m ≡ got w r) where
+    pub name-passes : p w ≡ true → read_gap (read_if p (read_run is_name)) m ≡ got w r
+    name-passes v = gap-if (read_run is_name) m p ∙ rw (e, v)
 
-  module _ (f : r.fits ≡ true) {t : Bool} (e : t ≡ p (take (r.next - r.start) (drop r.start m))) where
-    tested : read_gap (read_if p (read_run is_name)) k ≡ guard t (got (take (r.next - r.start) (drop r.start m)) (drop r.next m))
-    tested = gap-if (read_run is_name) k p ∙ rw (name-there h f, e)
-
-    pub right-name : t ≡ true → read_gap (read_if p (read_run is_name)) k ≡ got (take (r.next - r.start) (drop r.start m)) (drop r.next m)
-    right-name u = tested ∙ rw u
-
-    pub wrong_name : t ≡ false → read_gap (read_if p (read_run is_name)) k ≡ misfit
-    wrong_name u = tested ∙ rw u
-
-    pub name-passes : t ≡ true → Spanned m (read_gap (read_if p (read_run is_name)) k) r
-    name-passes u = record { ordered = h.ordered; within = h.within; says = right-name u ∙ rw f; blank = h.blank }
-
-    pub name-fails : t ≡ false → Spanned m (read_gap (read_if p (read_run is_name)) k) no_span
-    name-fails u = unnamed (wrong_name u)
+    pub name-fails : p w ≡ false → read_gap (read_if p (read_run is_name)) m ≡ misfit
+    name-fails v = gap-if (read_run is_name) m p ∙ rw (e, v)
 
 -- what is known of a name that was read
 module _ (m : List ℕ) {w r : List ℕ} where

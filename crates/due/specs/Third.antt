@@ -1,5 +1,6 @@
 -- "tell for each third whether the change counts"
-use Rattle.std.specs.Prelude.{ℕ, cond, Bool, true, not, [], ◌∷◌, eqb, leb, ℤ, pos, nat_abs, ◌-ℤ◌}
+use Rattle.std.specs.Prelude.{ℕ, unwrap_or, cond, Bool, true, not, [], ◌∷◌, eqb, leb, ℤ, pos, nat_abs, ◌-ℤ◌}
+use Rattle.std.specs.Option.{option_map}
 use Rattle.text.specs.Choice.{first_failing, ◌else◌, ◌and◌}
 use Rattle.surface.specs.declared.Third.{Third}
 use Rattle.surface.specs.Descriptions.{not_reported, line_of, is_deep}
@@ -14,7 +15,7 @@ size z = nat_abs z
 
 -- the figure of Table 3, its last column
 abbrev pub figure : ℕ → ℕ
-figure description = (line_of description).2
+figure description = unwrap_or (option_map (λ l. l.2) (line_of description)) 0
 
 -- "counted when the difference .. reaches the figure"; a description that has no line has no figure to reach
 unfoldable pub is_significant : ℕ → ℕ → Bool

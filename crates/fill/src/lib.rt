@@ -2,11 +2,15 @@
 
 #![tactic(auto)]
 
-ghost use Rattle.std.specs.Prelude.{◌≡◌, ◌+◌, ◌%◌, ◌<◌, ◌≤◌, length};
+ghost use Rattle.std.specs.Prelude.{◌≡◌, ℕ, ◌+◌, ◌%◌, ◌<◌, ◌≤◌, List, ◌∷◌, length};
+ghost use Rattle.std.specs.Fn.{FnOnceReturnsAtMut};
 ghost use Rattle.std.proofs.lemmas.List.Edits.{sets};
 ghost use Rattle.text.specs.Piece.{canonical};
 ghost use Rattle.text.specs.Numbers.{digits, number};
 ghost use Rattle.text.specs.Put.{Put, told};
+ghost use Rattle.fill.specs.Code.Writes.{Writes};
+
+use text::place;
 
 // Places are told so far past the buffer's end.
 const PAST_END: usize = 65536;
@@ -15,11 +19,7 @@ const PAST_END: usize = 65536;
 pub fn told_behind(out: &[u8], at: usize, n: usize) -> usize
     ensures { result ≡ told out.now (at + n) }
 {
-    let most = out.len() + PAST_END;
-    if most < at {
-        return most;
-    }
-    if n <= most - at { at + n } else { most }
+    at.saturating_add(n).min(out.len() + PAST_END)
 }
 
 // Stores `t` from `at` on; there is room for it.
@@ -27,10 +27,9 @@ fn store_whole(out: &mut [u8], at: usize, t: &[u8])
     requires { at + length t.now ≤ length out.old }
     ensures { out.new ≡ sets out.old at t.now }
 {
-    let mut i = 0;
-    while i < t.len() {
-        out[at + i] = t[i];
-        i += 1;
+    // not `copy_from_slice`: most texts have a few bytes, which a call costs more than
+    for (i, &b) in t.iter().enumerate() {
+        out[at + i] = b;
     }
 }
 
@@ -52,11 +51,9 @@ fn put_part(out: &mut [u8], at: usize, t: &[u8]) -> usize
 pub fn put(out: &mut [u8], at: usize, t: &[u8]) -> usize
     ensures { Put at t.now out.old out.new result }
 {
-    if at <= out.len() {
-        if t.len() <= out.len() - at {
-            store_whole(out, at, t);
-            return at + t.len();
-        }
+    if at <= out.len() && t.len() <= out.len() - at {
+        store_whole(out, at, t);
+        return at + t.len();
     }
     put_part(out, at, t)
 }
@@ -74,16 +71,13 @@ fn store_digits(out: &mut [u8], at: usize, n: u8, x: u32)
     if out.len() <= at {
         return;
     }
-    let mut k = n;
     let mut y = x;
-    while 0 < k {
-        k -= 1;
-        let j = at + (k as usize);
-        let b = digit_byte(y);
-        y /= 10;
+    for k in (0..n).rev() {
+        let j = at + k as usize;
         if j < out.len() {
-            out[j] = b;
+            out[j] = digit_byte(y);
         }
+        y /= 10;
     }
 }
 
@@ -100,8 +94,26 @@ pub fn put_digits(out: &mut [u8], at: usize, n: u8, x: u32) -> usize
 pub fn put_number(out: &mut [u8], at: usize, n: u8) -> usize
     ensures { Put at (canonical (number 1 n)) out.old out.new result }
 {
-    if 10 <= n {
-        return put_digits(out, at, 2, n as u32);
-    }
-    put_digits(out, at, 1, n as u32)
+    let count = if n < 10 { 1 } else { 2 };
+    put_digits(out, at, count, n as u32)
+}
+
+// Lends the rest of the buffer from `at` on to a writer, which answers how many bytes it filled, and tells the place behind them: the text that the
+// writer puts at the front of whatever it is lent stands at `at`.
+pub fn in_rest<F: FnOnce(&mut [u8]) -> usize>(out: &mut [u8], at: usize, write: F) -> usize
+    requires { F.IsAlwaysCallable write }
+    ensures { (t : List ℕ) → Writes (FnOnceReturnsAtMut F.FnOnce write) t → Put at t out.old out.new result }
+{
+    let start = place(out, at);
+    let n = write(&mut out[start..]);
+    told_behind(out, at, n)
+}
+
+// The same in a new line, under the text that ends at `at`.
+pub fn line_under<F: FnOnce(&mut [u8]) -> usize>(out: &mut [u8], at: usize, write: F) -> usize
+    requires { F.IsAlwaysCallable write }
+    ensures { (t : List ℕ) → Writes (FnOnceReturnsAtMut F.FnOnce write) t → Put at (10 ∷ t) out.old out.new result }
+{
+    let line = put(out, at, b"\n");
+    in_rest(out, line, write)
 }

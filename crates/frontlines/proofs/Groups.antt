@@ -1,26 +1,27 @@
 -- Groups of letters at a place of a line.
-use Prim.Native.Nat.{ℕ, zero, suc, ◌+◌, ◌*◌, ◌-◌, ◌≤◌}
+use Prim.Native.Nat.{ℕ, zero, suc, ◌+◌, ◌*◌, ◌≤◌}
 use mathlib.Core.Path.{◌≡◌, refl, sym, ◌∙◌, ap}
 use mathlib.Core.List.{List, [], ◌∷◌}
 use mathlib.Core.Bool.{cond, Bool, true, false}
+use Rattle.std.specs.Prelude.{Option, None, Some, MatchOption}
 use native.Mathlib.Omega.{arith}
 use native.Mathlib.Nat.{suc-mul}
 use lib.Dec.{eqb, eqb-zero-suc, eqb-suc-suc}
-use lib.ListN.{length, take, drop, length-drop, drop_of_length-le}
+use lib.ListN.{length, take, drop, drop_of_length-le}
 use lib.Seq.{drop-cons, drop-drop, take_all}
 use borrow.Author.Tests.{eqb-true, eqb-false}
 use Rattle.text.specs.Choice.{◌and◌, all}
-use Rattle.text.specs.Read.{Got, misfit, got, guard, and_then, read_gap, whole, read_word}
+use Rattle.text.specs.Read.{Got, misfit, got, guard, and_then, or_else, read_gap, whole, read_word}
 use Rattle.text.specs.Names.{is_letter, in_class, read_count}
 use Rattle.text.specs.Arrays.{slots, past_slots}
-use Rattle.text.specs.Code.Held.{Spanned, Held, is_got}
+use Rattle.text.specs.Code.Held.{Held, is_got}
 use Rattle.text.specs.declared.Found.{Found}
+use Rattle.text.specs.declared.Class.TheVariants.{Letters}
 use Rattle.text.specs.Laws.Base.{true-false}
-use Rattle.text.specs.Laws.Held.{held-text, part-all}
+use Rattle.text.specs.Laws.Held.{text-on}
 use Rattle.text.proofs.Laws.Combine.{gap-laws}
 use Rattle.frontlines.specs.Letters.{read_letters, is_letters}
 use Rattle.frontlines.specs.Laws.Letters.{letters-long, letters-laws, letter-no-space}
-use Rattle.text.specs.declared.Span.{Span}
 
 pub fits-off : {A : Type 0} (g : Got A) → is_got g ≡ false → g ≡ misfit
 fits-off misfit h = refl
@@ -50,21 +51,22 @@ count-stand p (suc n) (x ∷ m) h = go (p x) refl h (count-stand p n m)
         let l = y.long in
         record { long = omega arith; is = rw (q, y.is) }
 
-pub letters-stand : (n : ℕ) (m : List ℕ) → is_got (read_count (in_class 0) n m) ≡ true → Stand n m (read_letters n m)
+pub letters-stand : (n : ℕ) (m : List ℕ) → is_got (read_count (in_class Letters) n m) ≡ true → Stand n m (read_letters n m)
 unfolding in_class
 letters-stand n m h = count-stand is_letter n m h
 
-pub letters-off : (n : ℕ) (m : List ℕ) → is_got (read_count (in_class 0) n m) ≡ false → read_letters n m ≡ misfit
+pub letters-off : (n : ℕ) (m : List ℕ) → is_got (read_count (in_class Letters) n m) ≡ false → read_letters n m ≡ misfit
 unfolding in_class
 letters-off n m h = fits-off (read_count is_letter n m) h
 
 -- a gap, and then what g reads
-module _ {A : Type 0} (g : List ℕ → Got A) (m : List ℕ) (f : Found) (h : Held m (read_word (32 ∷ []) 0 m) f) where
-  pub gap-off : f.fits ≡ false → read_gap g m ≡ misfit
-  gap-off t = rw (held-text (32 ∷ []) m 0 h, t)
+pub gap-on : {A : Type 0} (g : List ℕ → Got A) (m : List ℕ) {k : List ℕ} {f : Found} → Held k (read_word (32 ∷ []) 0 m) (Some f) → read_gap g m ≡ g (drop f.next k)
+gap-on g m h = rw (text-on (32 ∷ []) m 0 h)
 
-  pub gap-on : f.fits ≡ true → read_gap g m ≡ g (drop f.next m)
-  gap-on t = rw (held-text (32 ∷ []) m 0 h, t)
+-- where the first reading finds nothing, the second is made
+pub or-held : {m : List ℕ} {g : Got ℕ} (h : Got ℕ) (a r : Option Found) → Held m g a → MatchOption a (Held m h r) (λ x. r ≡ Some x) → Held m (or_else g h) r
+or-held h None r p q = record { within = q.within; says = rw p.says q.says }
+or-held h (Some x) r p q = rw q (record { within = p.within; says = rw p.says })
 
 -- n letters by a test
 slot-fits : (n : ℕ) (m : List ℕ) → is_got (read_letters n m) ≡ is_letters n (take n m)
@@ -86,7 +88,7 @@ slot-fits (suc n) (x ∷ m) = rw (eqb-suc-suc (length (take n m)) n) (go (is_let
 letters-test : (n : ℕ) (m : List ℕ) → length m ≡ n → is_got (read_letters n m) ≡ is_letters n m
 letters-test n m e = slot-fits n m ∙ ap (is_letters n) (take_all n m (omega arith))
 
-pub letters-are : (n : ℕ) (m : List ℕ) → length m ≡ n → is_got (read_count (in_class 0) n m) ≡ is_letters n m
+pub letters-are : (n : ℕ) (m : List ℕ) → length m ≡ n → is_got (read_count (in_class Letters) n m) ≡ is_letters n m
 unfolding in_class
 letters-are = letters-test
 
@@ -124,7 +126,7 @@ count-more p (suc a) b (x ∷ m) = let z : suc a + b ≡ suc (a + b) = omega ari
     go true h = again x (read_count p (a + b) m) ∙ h ∙ ap (λ t. t and is_got (read_count p b (drop a m))) (sym (again x (read_count p a m)))
     go false h = refl
 
-pub slots-fit : (w n : ℕ) (f : List ℕ) → is_got (read_count (in_class 0) (n * w) f) ≡ all (is_letters w) (slots w n f)
+pub slots-fit : (w n : ℕ) (f : List ℕ) → is_got (read_count (in_class Letters) (n * w) f) ≡ all (is_letters w) (slots w n f)
 unfolding in_class slots read_count
 slots-fit w zero f = let z : 0 * w ≡ 0 = omega arith in rw z
 slots-fit w (suc n) f =
@@ -138,18 +140,6 @@ slots-past w (suc n) f =
     let z : suc n * w ≡ w + n * w = suc-mul n w ∙ omega arith in
     rw z (sym (drop-drop (n * w) w f) ∙ slots-past w n (drop w f))
 
--- letters behind a gap, found in a part of a line
+-- letters behind a gap
 pub gap-long : (n : ℕ) (m : List ℕ) {a r : List ℕ} → read_gap (read_letters (suc n)) m ≡ got a r → length a ≡ suc n
 gap-long n m {a} e = letters-long (suc n) a ((gap-laws (letters-laws n) letter-no-space).sound {m = m} e).0
-
-module _ (s : List ℕ) (at n : ℕ) (r : Span) (h : Spanned (take (length s - at) (drop at s)) (read_gap (read_letters n) (take (length s - at) (drop at s))) r) where
-  pub span-off : r.fits ≡ false → read_gap (read_letters n) (drop at s) ≡ misfit
-  span-off t = ap (read_gap (read_letters n)) (sym (part-all at s)) ∙ h.says ∙ rw t
-
-  pub span-on : r.fits ≡ true → read_gap (read_letters n) (drop at s) ≡ got (take ((at + r.next) - (at + r.start)) (drop (at + r.start) s)) (drop (at + r.next) s)
-  span-on t =
-      let z : (at + r.next) - (at + r.start) ≡ r.next - r.start = omega arith in
-      ap (read_gap (read_letters n)) (sym (part-all at s)) ∙ h.says ∙ rw (t, z, part-all at s, drop-drop r.start at s, drop-drop r.next at s)
-
-  pub span-within : at ≤ length s → at + r.next ≤ length s
-  span-within k = omega (arith, h.within, ap length (part-all at s), length-drop at s)

@@ -1,24 +1,26 @@
 -- What the groups of a line decide about the whole line.
 use Prim.Native.Nat.{ℕ, ◌-◌, ◌<◌, ◌≤◌, ◌^◌}
-use mathlib.Core.Path.{◌≡◌, refl, ◌∙◌, ap}
+use mathlib.Core.Path.{◌≡◌, ◌∙◌, ap}
 use mathlib.Core.List.{List, [], ◌∷◌, append-nil}
-use mathlib.Core.Bool.{cond, Bool, true, false}
+use mathlib.Core.Bool.{true, false}
+use Rattle.std.specs.Prelude.{Option, None, Some}
 use native.Mathlib.Omega.{arith}
 use lib.Dec.{eqb}
-use lib.ListN.{length, take, drop, replicate, length-drop, length-take, drop_of_length-le}
+use lib.ListN.{length, drop, replicate, length-drop, length-take}
 use lib.Seq.{sets, drop-drop}
 use Rattle.text.specs.Piece.{bytes}
-use Rattle.text.specs.Read.{misfit, got, and_then, read_text, read_gap, whole, read_word}
+use Rattle.text.specs.Read.{Got, misfit, got, and_then, read_text, read_gap, whole, read_word}
 use Rattle.text.specs.Names.{in_class, read_count}
-use Rattle.text.specs.Code.Held.{Held, none, is_got}
+use Rattle.text.specs.Code.Held.{Held, given, behind, is_got}
 use Rattle.text.specs.declared.Found.{Found}
+use Rattle.text.specs.declared.Class.TheVariants.{Letters}
 use Rattle.text.specs.Laws.Base.{no-misfit, guard-got}
-use Rattle.text.specs.Laws.Held.{held-text}
+use Rattle.text.specs.Laws.Held.{text-off, text-on}
 use Rattle.text.specs.Laws.Put.{over_zeros}
 use Rattle.frontlines.specs.Letters.{read_letters}
 use Rattle.frontlines.specs.Filing.{read_filing_time, read_filing}
 use Rattle.frontlines.specs.Heading.{read_serial, read_designator, read_time, make_heading, read_heading, read_serial_line}
-use Rattle.frontlines.specs.Code.Answers.{Designated}
+use Rattle.frontlines.specs.Code.Answers.{region_at, Designated}
 use Rattle.frontlines.specs.Laws.Letters.{letters-long}
 use Rattle.frontlines.specs.Laws.Heading.{designator-laws, serial-low}
 use Rattle.frontlines.proofs.Groups.{letters-stand, letters-off}
@@ -28,10 +30,6 @@ pub array-is : (n : ℕ) (t : List ℕ) → length t ≡ n → sets (replicate n
 array-is n t e =
     let z : n - length t ≡ 0 = omega arith in
     over_zeros 0 n t (omega arith) ∙ rw z (append-nil t)
-
--- the rest of a line from a place on
-pub rest-none : (m : List ℕ) (i : ℕ) → length m ≤ i → drop i m ≡ []
-rest-none m i h = drop_of_length-le m h
 
 -- line 2
 module _ (m : List ℕ) where
@@ -60,28 +58,22 @@ sw-at [] e = no-misfit e
 sw-at (x ∷ []) e = no-misfit (guard-got (eqb 83 x) e).1
 sw-at (x ∷ y ∷ m) {k} e = let z : got tt m ≡ got tt k = (guard-got (eqb 87 y) (guard-got (eqb 83 x) e).1).1 in let q : k ≡ m = cc in q
 
-module _ (m : List ℕ) (w : Found) (h : Held m (read_word (bytes "SW") 0 m) w) where
-  pub no-sw : w.fits ≡ false → Designated m none
-  no-sw t = record { within = omega arith; says = rw (held-text (bytes "SW") m 0 h, t) }
+module _ (m : List ℕ) {w : Found} (h : Held m (read_word (bytes "SW") 0 m) (Some w)) where
+  stands : read_text (bytes "SW") m ≡ got tt (drop 2 m)
+  stands = let e = text-on (bytes "SW") m 0 h in e ∙ ap (got tt) (sw-at m e)
 
-  module _ (t : w.fits ≡ true) where
-    stands : read_text (bytes "SW") m ≡ got tt (drop 2 m)
-    stands = let e = held-text (bytes "SW") m 0 h ∙ ap (λ (b : Bool). cond b (got tt (drop w.next m)) misfit) t in e ∙ ap (got tt) (sw-at m e)
+  pub no-region : is_got (read_count (in_class Letters) 2 (drop 2 m)) ≡ false → Designated m None
+  no-region f = record { within = omega arith; says = rw (stands, letters-off 2 (drop 2 m) f) }
 
-    pub no-region : is_got (read_count (in_class 0) 2 (drop 2 m)) ≡ false → Designated m none
-    no-region f = record { within = omega arith; says = rw (stands, letters-off 2 (drop 2 m) f) }
+  pub region : is_got (read_count (in_class Letters) 2 (drop 2 m)) ≡ true → (r : Option Found) → Held m (read_serial (drop 4 m)) r → Designated m r
+  region f r n = let s = letters-stand 2 (drop 2 m) f in go r n.within (rw (stands, s.is, drop-drop 2 2 m, n.says))
+    where
+      back : Got ℕ → Got (List ℕ × ℕ)
+      back g = and_then g (λ n k. got (region_at m, n) k)
 
-    pub region : is_got (read_count (in_class 0) 2 (drop 2 m)) ≡ true → {r : Found} → Held m (read_serial (drop 4 m)) r → Designated m r
-    region f {r} n =
-        let s = letters-stand 2 (drop 2 m) f in
-        record {
-          within = n.within;
-          says = rw (stands, s.is, drop-drop 2 2 m, n.says) (go r.fits);
-        }
-      where
-        go : (b : Bool) → and_then {B = List ℕ × ℕ} (cond b (got r.value (drop r.next m)) misfit) (λ n k. got (take 2 (drop 2 m), n) k) ≡ cond b (got (take 2 (drop 2 m), r.value) (drop r.next m)) misfit
-        go true = refl
-        go false = refl
+      go : (r : Option Found) → behind (λ f. f.next) r ≤ length m → read_designator m ≡ back (given (λ f. f.value) (λ f. f.next) m r) → Designated m r
+      go None w e = record { within = w; says = e }
+      go (Some r) w e = record { within = w; says = e }
 
 module _ (m : List ℕ) where
   pub no-designator : read_designator m ≡ misfit → whole (read_heading m) ≡ misfit
@@ -107,30 +99,24 @@ module _ (m : List ℕ) where
         unfolding read_heading
         heading-whole z = rw (e, f, g, z)
 
-pub undesignated : {m : List ℕ} {r : Found} → Designated m r → r.fits ≡ false → read_designator m ≡ misfit
-undesignated h t = h.says ∙ rw t
+-- what a designator says
+module _ {m : List ℕ} {r : Found} (h : Designated m (Some r)) where
+  pub region-long : length (region_at m) ≡ 2
+  region-long = letters-long 2 (region_at m) (designator-laws.sound {m = m} h.says).0.0
 
--- what a designator that fits says
-module _ {m : List ℕ} {r : Found} (h : Designated m r) (t : r.fits ≡ true) where
-  pub designated : read_designator m ≡ got (take 2 (drop 2 m), r.value) (drop r.next m)
-  designated = h.says ∙ rw t
-
-  pub region-long : length (take 2 (drop 2 m)) ≡ 2
-  region-long = letters-long 2 (take 2 (drop 2 m)) (designator-laws.sound {m = m} designated).0.0
-
-  -- so that they lie within the line
+  -- so that its letters lie within the line
   pub region-inside : 4 ≤ length m
   region-inside = omega (arith, region-long, length-take 2 (drop 2 m), length-drop 2 m)
 
   pub serial-fits : r.value < 10 ^ 4
-  serial-fits = serial-low r.value (designator-laws.sound {m = m} designated).0.1
+  serial-fits = serial-low r.value (designator-laws.sound {m = m} h.says).0.1
 
 -- line 4
-module _ (m : List ℕ) (w : Found) (h : Held m (read_word (bytes "(SNOWTAM ") 0 m) w) where
-  pub serial-off : w.fits ≡ false → read_serial_line m ≡ misfit
+module _ (m : List ℕ) where
+  pub serial-off : Held m (read_word (bytes "(SNOWTAM ") 0 m) None → read_serial_line m ≡ misfit
   unfolding read_serial_line
-  serial-off t = rw (held-text (bytes "(SNOWTAM ") m 0 h, t)
+  serial-off h = rw (text-off (bytes "(SNOWTAM ") m 0 h)
 
-  pub serial-on : w.fits ≡ true → read_serial_line m ≡ read_serial (drop w.next m)
+  pub serial-on : {w : Found} → Held m (read_word (bytes "(SNOWTAM ") 0 m) (Some w) → read_serial_line m ≡ read_serial (drop w.next m)
   unfolding read_serial_line
-  serial-on t = rw (held-text (bytes "(SNOWTAM ") m 0 h, t)
+  serial-on h = rw (text-on (bytes "(SNOWTAM ") m 0 h)

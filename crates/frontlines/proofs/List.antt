@@ -2,7 +2,8 @@
 use Prim.Native.Nat.{ℕ, zero, suc, ◌+◌, ◌-◌, ◌*◌, ◌<◌, ◌≤◌}
 use mathlib.Core.Path.{◌≡◌, refl, sym, ◌∙◌, ap}
 use mathlib.Core.List.{List, [], ◌∷◌, ◌++◌}
-use mathlib.Core.Bool.{true, not}
+use mathlib.Core.Bool.{not}
+use Rattle.std.specs.Prelude.{Option, None, Some}
 use native.Mathlib.Omega.{arith}
 use lib.Dec.{leb}
 use lib.ListN.{length, drop, drop_of_length-le}
@@ -15,15 +16,14 @@ use Rattle.text.specs.Laws.Names.{all-at}
 use Rattle.text.specs.Laws.Many.{many-laws}
 use Rattle.text.specs.Laws.Put.{sets-join, over_zeros}
 use Rattle.frontlines.specs.Addresses.{priorities, make_addresses, read_priority, read_address, read_addresses}
-use Rattle.frontlines.specs.Code.Answers.{zeros, list_answer, addresses_answer}
+use Rattle.frontlines.specs.Code.Answers.{zeros, found, list_answer}
 use Rattle.frontlines.specs.Laws.Addresses.{priority-laws, address-laws, flat-fits}
 use Rattle.frontlines.specs.declared.Addresses.{Addresses}
-use Rattle.frontlines.specs.declared.AddressList.{AddressList}
 
 -- c addresses are in the array L, and those of g come behind them
-abbrev pub onto : ℕ → List ℕ → Got (List (List ℕ)) → AddressList
-onto c L misfit = list_answer misfit
-onto c L (got as' r) = record { count = c + length as'; letters = sets L (c * 8) (flat as') }
+abbrev pub onto : ℕ → List ℕ → Got (List (List ℕ)) → Option (ℕ × List ℕ)
+onto c L misfit = None
+onto c L (got as' r) = Some (c + length as', sets L (c * 8) (flat as'))
 
 -- the whole rest of a line, of which c addresses are taken
 abbrev pub list_from : ℕ → List ℕ → Got (List (List ℕ))
@@ -38,7 +38,7 @@ onto-all m = go (read_many read_address 8 m) refl
         let v = ((many-laws address-laws (λ m h. tt) 8).sound {m = m} q).0 in
         let z : 0 + length as' ≡ length as' = omega arith in
         let e = over_zeros 0 64 (flat as') (flat-fits as' v.0 v.1) in
-        λ i. record { count = z i; letters = e i }
+        λ i. Some (z i, e i)
     go (got as' (x ∷ k)) q = refl
 
 -- one step of the loop
@@ -66,7 +66,7 @@ onto-step c L a (got as' []) l =
     let n : c + suc (length as') ≡ c + 1 + length as' = omega arith in
     let z : c * 8 + length a ≡ (c + 1) * 8 = omega arith in
     let e : sets L (c * 8) (a ++ flat as') ≡ sets (sets L (c * 8) a) ((c + 1) * 8) (flat as') = sets-join L (c * 8) a (flat as') ∙ rw z in
-    λ i. record { count = n i; letters = e i }
+    λ i. Some (n i, e i)
 onto-step c L a (got as' (x ∷ k)) l = refl
 
 pub list_on : (c : ℕ) (L m : List ℕ) {a k : List ℕ} → c < 8 → read_address m ≡ got a k → length a ≡ 8 → onto c L (list_from c m) ≡ onto (c + 1) (sets L (c * 8) a) (list_from (c + 1) k)
@@ -76,24 +76,33 @@ list_on c L m {a} {k} h e l =
     rw (z, e) (onto-step c L a (read_many read_address (8 - (c + 1)) k) l)
 
 -- the ways out of the loop
-module _ (m : List ℕ) (at c : ℕ) (L : List ℕ) (inv : onto c L (list_from c (drop at m)) ≡ list_answer (list_from 0 m)) where
-  pub way_end : length m ≤ at → record { count = c; letters = L } ≡ list_answer (list_from 0 m)
+module _ (m : List ℕ) (at c : ℕ) (L k : List ℕ) (inv : onto c L (list_from c (drop at m)) ≡ list_answer (list_from 0 k)) where
+  pub way_end : length m ≤ at → Some (c, L) ≡ list_answer (list_from 0 k)
   unfolding flat
   way_end h =
       let z : c ≡ c + 0 = omega arith in
-      ap (λ (n : ℕ). record { count = n; letters = L }) z ∙ sym (ap (onto c L) (list-end c (drop at m) (drop_of_length-le m h))) ∙ inv
+      ap (λ (n : ℕ). Some (n, L)) z ∙ sym (ap (onto c L) (list-end c (drop at m) (drop_of_length-le m h))) ∙ inv
 
   module _ (h : at < length m) where
-    pub way-full : 8 ≤ c → list_answer misfit ≡ list_answer (list_from 0 m)
-    way-full k = sym (ap (onto c L) (list_full c (drop-cons m at 0 h) k)) ∙ inv
+    pub way-full : 8 ≤ c → None ≡ list_answer (list_from 0 k)
+    way-full l = sym (ap (onto c L) (list_full c (drop-cons m at 0 h) l)) ∙ inv
 
-    pub way-off : c < 8 → read_address (drop at m) ≡ misfit → list_answer misfit ≡ list_answer (list_from 0 m)
-    way-off k f = sym (ap (onto c L) (list-off c (drop-cons m at 0 h) k f)) ∙ inv
+    pub way-off : c < 8 → read_address (drop at m) ≡ misfit → None ≡ list_answer (list_from 0 k)
+    way-off l f = sym (ap (onto c L) (list-off c (drop-cons m at 0 h) l f)) ∙ inv
 
 -- the priority, and the list behind it
 pub priority-low : (m : List ℕ) {p : ℕ} {k : List ℕ} → read_priority m ≡ got p k → p ≤ 2
 unfolding ◌and◌
 priority-low m {p} e = leb-true p 2 (all-at (λ x. leb x 2) priorities p refl (priority-laws.sound {m = m} e).0)
+
+abbrev count : Option (ℕ × List ℕ) → ℕ
+count None = 0
+count (Some r) = r.0
+
+-- the line's answer, from that of its list
+abbrev addressed : ℕ → Option (ℕ × List ℕ) → Option Addresses
+addressed p None = None
+addressed p (Some r) = Some (record { priority = p; count = r.0; letters = r.1 })
 
 -- the line's reading, from that of its list
 abbrev joined : ℕ → Got (List (List ℕ)) → Got Addresses
@@ -105,25 +114,35 @@ module _ (m : List ℕ) where
   no-priority e = rw e
 
   module _ {p : ℕ} {k : List ℕ} (e : read_priority m ≡ got p k) where
-    pub none-listed : (list_answer (list_from 0 k)).count ≡ 0 → whole (read_addresses m) ≡ misfit
+    pub no-list : None ≡ list_answer (list_from 0 k) → whole (read_addresses m) ≡ misfit
     unfolding read_addresses
-    none-listed z = rw e (go (read_many read_address 8 k) z)
+    no-list z = rw e (go (read_many read_address 8 k) z)
       where
-        go : (g : Got (List (List ℕ))) → (list_answer (whole g)).count ≡ 0 → whole (joined p g) ≡ misfit
+        go : (g : Got (List (List ℕ))) → None ≡ list_answer (whole g) → whole (joined p g) ≡ misfit
         go misfit z = refl
-        go (got [] k) z = refl
-        go (got (a ∷ as') []) z = absurd (omega arith)
+        go (got as' []) z = cc
+        go (got [] (x ∷ k)) z = refl
         go (got (a ∷ as') (x ∷ k)) z = refl
 
-    pub some-listed : (l : AddressList) → l ≡ list_answer (list_from 0 k) → (l.count ≡ 0 → ⊥) → record { fits = true; addresses = record { priority = p; count = l.count; letters = l.letters } } ≡ addresses_answer (whole (read_addresses m))
-    unfolding read_addresses
-    some-listed l q z = rw (e, q) (go (read_many read_address 8 k) (λ w. z (ap (λ (l : AddressList). l.count) q ∙ w)))
-      where
-        go : (g : Got (List (List ℕ))) → ((list_answer (whole g)).count ≡ 0 → ⊥)
-            → record { fits = true; addresses = record { priority = p; count = (list_answer (whole g)).count; letters = (list_answer (whole g)).letters } }
-            ≡ addresses_answer (whole (joined p g))
-        go misfit z = absurd (z refl)
-        go (got [] []) z = absurd (z refl)
-        go (got [] (x ∷ k)) z = absurd (z refl)
-        go (got (a ∷ as') []) z = refl
-        go (got (a ∷ as') (x ∷ k)) z = absurd (z refl)
+    module _ {c : ℕ} {l : List ℕ} (q : Some (c, l) ≡ list_answer (list_from 0 k)) where
+      pub none-listed : c ≡ 0 → whole (read_addresses m) ≡ misfit
+      unfolding read_addresses
+      none-listed z = rw e (go (read_many read_address 8 k) q)
+        where
+          go : (g : Got (List (List ℕ))) → Some (c, l) ≡ list_answer (whole g) → whole (joined p g) ≡ misfit
+          go misfit q = refl
+          go (got [] []) q = refl
+          go (got (a ∷ as') []) q = absurd (omega (arith, ap count q))
+          go (got [] (x ∷ k)) q = refl
+          go (got (a ∷ as') (x ∷ k)) q = refl
+
+      pub some-listed : (c ≡ 0 → ⊥) → Some (record { priority = p; count = c; letters = l }) ≡ found (whole (read_addresses m))
+      unfolding read_addresses
+      some-listed z = rw e (go (read_many read_address 8 k) q)
+        where
+          go : (g : Got (List (List ℕ))) → Some (c, l) ≡ list_answer (whole g) → Some (record { priority = p; count = c; letters = l }) ≡ found (whole (joined p g))
+          go misfit q = ap (addressed p) q
+          go (got [] []) q = absurd (z (ap count q))
+          go (got (a ∷ as') []) q = ap (addressed p) q
+          go (got [] (x ∷ k)) q = ap (addressed p) q
+          go (got (a ∷ as') (x ∷ k)) q = ap (addressed p) q

@@ -1,5 +1,5 @@
 -- The bytes of each line, part by part.
-use Prim.Native.Nat.{ℕ, zero, suc, ◌+◌, ◌*◌, ◌≤◌}
+use Prim.Native.Nat.{ℕ, zero, suc, ◌+◌, ◌-◌, ◌*◌, ◌≤◌, min}
 use mathlib.Core.Path.{◌≡◌, refl, sym, ◌∙◌, ap}
 use mathlib.Core.List.{List, [], ◌∷◌, ◌++◌, append_assoc, append-nil}
 use mathlib.Core.Bool.{Bool, true, false}
@@ -7,8 +7,8 @@ use native.Mathlib.Nat.{suc-mul}
 use native.Mathlib.Numerals.{add-one}
 use native.Mathlib.Omega.{arith}
 use lib.Dec.{leb}
-use lib.ListN.{length, take, drop, drop_of_length-le}
-use lib.Seq.{drop-drop, length-sets}
+use lib.ListN.{length, take, drop, length-drop, drop_of_length-le}
+use lib.Seq.{drop-drop, length-sets, take_all}
 use borrow.Author.Tests.{leb-true, leb-false}
 use Rattle.text.specs.Piece.{gap, bytes, spell, verbatim, canonical, lay_all}
 use Rattle.text.specs.Numbers.{digits}
@@ -17,7 +17,8 @@ use Rattle.text.specs.Put.{Put, told, farthest}
 use Rattle.text.specs.Laws.Put.{canonical-append, told-near, told-far}
 use Rattle.frontlines.specs.Addresses.{priority_name, address_pieces}
 use Rattle.frontlines.specs.Filing.{filing_pieces}
-use Rattle.frontlines.specs.Heading.{Heading, designator_pieces, heading_pieces, serial_pieces}
+use Rattle.frontlines.specs.declared.Heading.{Heading}
+use Rattle.frontlines.specs.Heading.{designator_pieces, heading_pieces, serial_pieces}
 use Rattle.frontlines.specs.declared.Filing.{Filing}
 
 -- a text that is put leaves the buffer as long as it was
@@ -60,9 +61,30 @@ no-priority-text (suc (suc (suc p))) a b = refl
 pub address-text : (l : List ℕ) → canonical (address_pieces l) ≡ (32 ∷ []) ++ l
 address-text l = ap (λ k. 32 ∷ k) (verbatim-text l)
 
--- past the array there is no address
-pub no_slot : (f : List ℕ) (i : ℕ) → length f ≤ i * 8 → take 8 (drop (i * 8) f) ≡ []
-no_slot f i h = rw (drop_of_length-le f h)
+-- eight bytes of the array, as far as it goes
+pub slot-within : (f : List ℕ) (n i j : ℕ) → i ≡ min n (length f) → j ≡ min (i + 8) (length f) → take 8 (drop n f) ≡ take (j - i) (drop i f)
+slot-within f n i j p q = go (leb n (length f)) refl
+  where
+    reach : (t : Bool) → leb (n + 8) (length f) ≡ t → n ≤ length f → take 8 (drop n f) ≡ take (j - n) (drop n f)
+    reach true e h =
+        let k = leb-true (n + 8) (length f) e in
+        let z : j - n ≡ 8 = omega arith in
+        rw z
+    reach false e h =
+        let k = leb-false (n + 8) (length f) e in
+        let l = length-drop n f in
+        take_all 8 (drop n f) (omega arith) ∙ sym (take_all (j - n) (drop n f) (omega arith))
+
+    go : (t : Bool) → leb n (length f) ≡ t → take 8 (drop n f) ≡ take (j - i) (drop i f)
+    go true e =
+        let h = leb-true n (length f) e in
+        let z : i ≡ n = omega arith in
+        rw z (reach (leb (n + 8) (length f)) refl h)
+    go false e =
+        let h = leb-false n (length f) e in
+        let z : i ≡ length f = omega arith in
+        let w : j - i ≡ 0 = omega arith in
+        rw (drop_of_length-le f {i = n} (omega arith), w)
 
 slots-more : (w n : ℕ) (f : List ℕ) → slots w (suc n) f ≡ slots w n f ++ (take w (drop (n * w) f) ∷ [])
 unfolding slots

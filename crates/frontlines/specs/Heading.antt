@@ -7,6 +7,7 @@ use Rattle.text.specs.Numbers.{digits, read_digits}
 use Rattle.runway.specs.Time.{real_time}
 use Rattle.frontlines.specs.Letters.{read_letters, is_letters}
 use Rattle.frontlines.specs.declared.Title.{Title}
+use Rattle.frontlines.specs.declared.Heading.{Heading}
 
 -- "two letters"
 abbrev pub region_size : ℕ
@@ -15,11 +16,6 @@ region_size = 2
 -- "the aerodrome, four letters"
 abbrev pub aerodrome_size : ℕ
 aerodrome_size = 4
-
--- what line 3 says: the title, and the time that a record works out from its rows
-pub record Heading : Type 0 where
-  pub title : Title
-  pub time : ℕ
 
 -- "a serial 0001 to 9999"
 abbrev pub is_serial : ℕ → Bool

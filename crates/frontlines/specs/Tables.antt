@@ -1,5 +1,5 @@
 -- The values of the rules, evaluated: a changed numeral or word fails here.
-use Rattle.std.specs.Prelude.{ℕ, ◌≡◌, refl, List, [], ◌∷◌, ◌++◌, map, Bool, true, false, replicate}
+use Rattle.std.specs.Prelude.{ℕ, ◌≡◌, refl, List, [], ◌∷◌, ◌++◌, map, Bool, true, false, None, Some, replicate}
 use Prim.Native.String.{String}
 use Rattle.text.specs.Choice.{◌and◌}
 use Rattle.text.specs.Piece.{bytes, spell, canonical}
@@ -12,9 +12,10 @@ use Rattle.runway.specs.Time.{is_short_month, days_of, real_day, real_clock, rea
 use Rattle.frontlines.specs.Letters.{is_letters}
 use Rattle.frontlines.specs.Addresses.{addresses_of, make_addresses, addresses_pieces, read_addresses, valid_addresses}
 use Rattle.frontlines.specs.Filing.{real_filing, filing_pieces, read_filing, valid_filing}
-use Rattle.frontlines.specs.Heading.{Heading, read_designator, heading_pieces, read_heading, valid_title, valid_heading, serial_pieces, read_serial_line}
+use Rattle.frontlines.specs.declared.Heading.{Heading}
+use Rattle.frontlines.specs.Heading.{read_designator, heading_pieces, read_heading, valid_title, valid_heading, serial_pieces, read_serial_line}
 use Rattle.frontlines.specs.Heading.{aerodrome_pieces, read_aerodrome}
-use Rattle.frontlines.specs.Code.Answers.{addresses_answer, filing_answer, heading_answer, aerodrome_answer, list_answer, region_at}
+use Rattle.frontlines.specs.Code.Answers.{blank_addresses, blank_filing, blank_title, found, list_answer, region_at}
 
 -- which of some lines are taken, each read whole
 abbrev taken : {A : Type 0} → (List ℕ → Got A) → List String → List Bool
@@ -167,20 +168,15 @@ last-lines = record {
   aerodrome-text = refl;
 }
 
--- "blank means all zero": what is answered for a line that does not fit, and for one that does
+-- "blank means all zero", and what is answered for a line that does not fit, and for one that does
 pub record Answers : Type 0 where
-  pub no-addresses : addresses_answer misfit ≡ record { fits = false; addresses = record { priority = 0; count = 0; letters = replicate 64 0 } }
-  pub no-filing : filing_answer misfit ≡ record { fits = false; filing = record { time = 0; originator = replicate 8 0 } }
-  pub no-heading : heading_answer misfit ≡ record { fits = false; title = record { region = 0 ∷ 0 ∷ []; serial = 0; aerodrome = 0 ∷ 0 ∷ 0 ∷ 0 ∷ [] }; time = 0 }
-  pub no-aerodrome : aerodrome_answer misfit ≡ record { fits = false; aerodrome = 0 ∷ 0 ∷ 0 ∷ 0 ∷ [] }
-  pub no-list : list_answer misfit ≡ record { count = 0; letters = replicate 64 0 }
-  pub addresses : addresses_answer (got (make_addresses 2 (bytes "XQAAYNYX" ∷ [])) [])
-      ≡ record { fits = true; addresses = make_addresses 2 (bytes "XQAAYNYX" ∷ []) }
-  pub filing : filing_answer (got (record { time = 10645; originator = bytes "XQAAYNYX" }) [])
-      ≡ record { fits = true; filing = record { time = 10645; originator = bytes "XQAAYNYX" } }
-  pub heading : heading_answer (got example []) ≡ record { fits = true; title = example.title; time = 1120640 }
-  pub aerodrome : aerodrome_answer (got (bytes "XQAA") []) ≡ record { fits = true; aerodrome = bytes "XQAA" }
-  pub list : list_answer (got (bytes "XQAAYNYX" ∷ bytes "XQBBYOYX" ∷ []) []) ≡ record { count = 2; letters = bytes "XQAAYNYXXQBBYOYX" ++ replicate 48 0 }
+  pub no-addresses : blank_addresses ≡ record { priority = 0; count = 0; letters = replicate 64 0 }
+  pub no-filing : blank_filing ≡ record { time = 0; originator = replicate 8 0 }
+  pub no-title : blank_title ≡ record { region = 0 ∷ 0 ∷ []; serial = 0; aerodrome = 0 ∷ 0 ∷ 0 ∷ 0 ∷ [] }
+  pub nothing : found {A = Heading} misfit ≡ None
+  pub heading : found (got example []) ≡ Some example
+  pub no-list : list_answer misfit ≡ None
+  pub list : list_answer (got (bytes "XQAAYNYX" ∷ bytes "XQBBYOYX" ∷ []) []) ≡ Some (2, bytes "XQAAYNYXXQBBYOYX" ++ replicate 48 0)
   -- the letters stand behind `SW`
   pub designated : read_designator (bytes "SWXQ0007 XQAA") ≡ got (region_at (bytes "SWXQ0007 XQAA"), 7) (bytes " XQAA")
 
@@ -189,13 +185,10 @@ unfolding ◌and◌ spell skip read_text read_count read_digits flat
 answers = record {
   no-addresses = refl;
   no-filing = refl;
-  no-heading = refl;
-  no-aerodrome = refl;
-  no-list = refl;
-  addresses = refl;
-  filing = refl;
+  no-title = refl;
+  nothing = refl;
   heading = refl;
-  aerodrome = refl;
+  no-list = refl;
   list = refl;
   designated = refl;
 }

@@ -15,16 +15,16 @@ ghost use Rattle.frontlines.specs.Letters.{read_letters, is_letters};
 ghost use Rattle.frontlines.specs.Addresses.{priorities, priority_name, address_pieces, read_priority, read_address, read_addresses, addresses_pieces, valid_addresses};
 ghost use Rattle.frontlines.specs.Filing.{real_filing, read_filing_time, read_filing, filing_pieces, valid_filing};
 ghost use Rattle.frontlines.specs.Heading.{is_serial, read_serial, read_time, designator_pieces, read_heading, heading_pieces, valid_title, read_serial_line, serial_pieces, read_aerodrome, aerodrome_pieces};
-ghost use Rattle.frontlines.specs.Code.Answers.{Designated, list_answer, addresses_answer, filing_answer, heading_answer, aerodrome_answer};
+ghost use Rattle.frontlines.specs.Code.Answers.{Designated, found, list_answer};
 
 use fill::{put, put_digits};
 use runway::{real_clock, real_time};
-use scan::{LETTERS, counted, digits, word, zeros_from};
-use text::{Found, NO_SPAN, NONE, Span};
+use scan::{counted, digits, word, zeros_from};
+use text::{Class, Found, Span};
 
 // Line 1. Zeros stand past the last address.
 #[repr(C)]
-#[derive(Clone, Copy)]
+#[derive(Clone, Copy, PartialEq, Eq)]
 pub struct Addresses {
     // 1 GG, 2 DD
     pub priority: u8,
@@ -35,7 +35,7 @@ pub struct Addresses {
 
 // Line 2.
 #[repr(C)]
-#[derive(Clone, Copy)]
+#[derive(Clone, Copy, PartialEq, Eq)]
 pub struct Filing {
     // ddhhmm as a number
     pub time: u32,
@@ -44,182 +44,96 @@ pub struct Filing {
 
 // Line 3 without its time, which a record works out from its rows.
 #[repr(C)]
-#[derive(Clone, Copy)]
+#[derive(Clone, Copy, PartialEq, Eq)]
 pub struct Title {
     pub region: [u8; 2],
     pub serial: u16,
     pub aerodrome: [u8; 4],
 }
 
-// What a line says; blank where it does not fit.
+// Line 3.
 #[derive(Clone, Copy)]
-pub struct AddressesRead {
-    pub fits: bool,
-    pub addresses: Addresses,
-}
-
-#[derive(Clone, Copy)]
-pub struct FilingRead {
-    pub fits: bool,
-    pub filing: Filing,
-}
-
-#[derive(Clone, Copy)]
-pub struct HeadingRead {
-    pub fits: bool,
+pub struct Heading {
     pub title: Title,
     pub time: u32,
-}
-
-#[derive(Clone, Copy)]
-pub struct AerodromeRead {
-    pub fits: bool,
-    pub aerodrome: [u8; 4],
-}
-
-// The addresses behind a priority; none where they do not fit.
-#[derive(Clone, Copy)]
-struct AddressList {
-    count: u8,
-    letters: [u8; 64],
 }
 
 const MOST_ADDRESSES: u8 = 8;
 
 const ADDRESS_SIZE: usize = 8;
 
-// A gap, and then `n` letters.
-fn gap_letters(s: &[u8], n: usize) -> Span
-    ensures { Spanned s.now (read_gap (read_letters n) s.now) result }
+// A gap at `i`, and then `n` letters.
+fn gap_letters(s: &[u8], i: usize, n: usize) -> Option<Span>
+    ensures { Spanned s.now (read_gap (read_letters n) (drop i s.now)) result }
 {
-    let gap = word(s, 0, b" ", 0);
-    if !gap.fits {
-        return NO_SPAN;
-    }
-    let start = gap.next;
-    if counted(s, start, LETTERS, n) {
-        Span {
-            fits: true,
+    let start = word(s, i, b" ", 0)?.next;
+    if counted(s, start, Class::Letters, n) {
+        Some(Span {
             start,
             next: start + n,
-        }
+        })
     } else {
-        NO_SPAN
+        None
     }
 }
 
-// Arrays of the bytes of a text; zeros stand behind a shorter one.
-fn two(s: &[u8]) -> [u8; 2]
-    ensures { result ≡ sets (replicate 2 0) 0 s.now }
+// An array of the bytes of a text; zeros stand behind a shorter one.
+fn bytes<const N: usize>(s: &[u8]) -> [u8; N]
+    ensures { result ≡ sets (replicate N 0) 0 s.now }
 {
-    let mut a = [0u8; 2];
-    put(&mut a, 0, s);
-    a
-}
-
-fn four(s: &[u8]) -> [u8; 4]
-    ensures { result ≡ sets (replicate 4 0) 0 s.now }
-{
-    let mut a = [0u8; 4];
-    put(&mut a, 0, s);
-    a
-}
-
-fn eight(s: &[u8]) -> [u8; 8]
-    ensures { result ≡ sets (replicate 8 0) 0 s.now }
-{
-    let mut a = [0u8; 8];
+    let mut a = [0; N];
     put(&mut a, 0, s);
     a
 }
 
 // `GG` or `DD`.
-fn priority(s: &[u8]) -> Found
+fn priority(s: &[u8]) -> Option<Found>
     ensures { Held s.now (read_priority s.now) result }
 {
-    let f = word(s, 0, b"GG", 1);
-    if f.fits {
-        return f;
-    }
-    word(s, 0, b"DD", 2)
+    word(s, 0, b"GG", 1).or_else(|| word(s, 0, b"DD", 2))
 }
 
-const NO_LIST: AddressList = AddressList {
-    count: 0,
-    letters: [0u8; 64],
-};
-
-// The array with one more address, behind the `count` that it holds.
-fn with_address(letters: [u8; 64], count: u8, address: &[u8]) -> [u8; 64]
-    ensures { result ≡ sets letters (count * 8) address.now }
+// How many addresses stand from `i` up to the end of the line, perhaps none, and their letters; each is read at its place.
+fn address_list(s: &[u8], i: usize) -> Option<(u8, [u8; 64])>
+    ensures { result ≡ list_answer (whole (read_many read_address 8 (drop i s.now))) }
 {
-    let mut a = letters;
-    put(&mut a, (count as usize) * ADDRESS_SIZE, address);
-    a
-}
-
-// The addresses up to the end of the line, each read at its place.
-fn address_list(s: &[u8]) -> AddressList
-    ensures { result ≡ list_answer (whole (read_many read_address 8 s.now)) }
-{
-    let mut letters = [0u8; 64];
+    let mut letters = [0; 64];
     let mut count: u8 = 0;
-    let mut at: usize = 0;
-    let fits = 'groups: loop {
+    let mut at = i;
+    'groups: loop {
         if s.len() <= at {
-            break 'groups true;
+            break 'groups Some((count, letters));
         }
         if MOST_ADDRESSES <= count {
-            break 'groups false;
+            break 'groups None;
         }
-        let group = gap_letters(&s[at..], ADDRESS_SIZE);
-        if !group.fits {
-            break 'groups false;
-        }
-        let start = at + group.start;
-        at += group.next;
-        let filled = with_address(letters, count, &s[start..at]);
-        letters = filled;
+        let Some(group) = gap_letters(s, at, ADDRESS_SIZE) else {
+            break 'groups None;
+        };
+        put(
+            &mut letters,
+            usize::from(count) * ADDRESS_SIZE,
+            &s[group.start..group.next],
+        );
         count += 1;
-    };
-    if fits {
-        AddressList { count, letters }
-    } else {
-        NO_LIST
+        at = group.next;
     }
 }
 
-const NO_ADDRESSES: AddressesRead = AddressesRead {
-    fits: false,
-    addresses: Addresses {
-        priority: 0,
-        count: 0,
-        letters: [0u8; 64],
-    },
-};
-
 // Line 1: `GG` or `DD`, then 1 to 8 addresses of eight letters.
-pub fn read_addresses(line: &[u8]) -> AddressesRead
-    ensures { result ≡ addresses_answer (whole (read_addresses line.now)) }
+pub fn read_addresses(line: &[u8]) -> Option<Addresses>
+    ensures { result ≡ found (whole (read_addresses line.now)) }
 {
-    let p = priority(line);
-    if !p.fits {
-        return NO_ADDRESSES;
+    let priority = priority(line)?;
+    let (count, letters) = address_list(line, priority.next)?;
+    if count == 0 {
+        return None;
     }
-    let at = p.next;
-    let list = address_list(&line[at..]);
-    if list.count == 0 {
-        return NO_ADDRESSES;
-    }
-    let letters = list.letters;
-    AddressesRead {
-        fits: true,
-        addresses: Addresses {
-            priority: p.value as u8,
-            count: list.count,
-            letters,
-        },
-    }
+    Some(Addresses {
+        priority: priority.value as u8,
+        count,
+        letters,
+    })
 }
 
 // Day 01 to 31, 00 to 23, 00 to 59.
@@ -227,192 +141,110 @@ fn real_filing(t: u32) -> bool
     ensures { result ≡ real_filing t }
 {
     let day = t / 10000;
-    if day < 1 {
-        return false;
-    }
-    if 31 < day {
-        return false;
-    }
-    real_clock(t % 10000)
+    1 <= day && day <= 31 && real_clock(t % 10000)
 }
 
-fn filing_time(s: &[u8]) -> Found
+fn filing_time(s: &[u8]) -> Option<Found>
     ensures { Held s.now (read_filing_time s.now) result }
 {
-    let f = digits(s, 0, 6);
-    if !f.fits {
-        return NONE;
-    }
-    if real_filing(f.value) { f } else { NONE }
+    digits(s, 0, 6).filter(|f| real_filing(f.value))
 }
 
-const NO_FILING: FilingRead = FilingRead {
-    fits: false,
-    filing: Filing {
-        time: 0,
-        originator: [0u8; 8],
-    },
-};
-
 // Line 2: the filing time and the originator.
-pub fn read_filing(line: &[u8]) -> FilingRead
-    ensures { result ≡ filing_answer (whole (read_filing line.now)) }
+pub fn read_filing(line: &[u8]) -> Option<Filing>
+    ensures { result ≡ found (whole (read_filing line.now)) }
 {
-    let time = filing_time(line);
-    if !time.fits {
-        return NO_FILING;
+    let time = filing_time(line)?;
+    let originator = gap_letters(line, time.next, 8)?;
+    if originator.next < line.len() {
+        return None;
     }
-    let at = time.next;
-    let group = gap_letters(&line[at..], 8);
-    if !group.fits {
-        return NO_FILING;
-    }
-    let start = at + group.start;
-    let next = at + group.next;
-    if next < line.len() {
-        return NO_FILING;
-    }
-    FilingRead {
-        fits: true,
-        filing: Filing {
-            time: time.value,
-            originator: eight(&line[start..next]),
-        },
-    }
+    Some(Filing {
+        time: time.value,
+        originator: bytes(&line[originator.start..originator.next]),
+    })
 }
 
 fn is_serial(n: u32) -> bool
     ensures { result ≡ is_serial n }
 {
-    if n < 1 {
-        return false;
-    }
-    n <= 9999
+    1 <= n && n <= 9999
 }
 
 // A serial 0001 to 9999.
-fn serial(s: &[u8], i: usize) -> Found
+fn serial(s: &[u8], i: usize) -> Option<Found>
     ensures { Held s.now (read_serial (drop i s.now)) result }
 {
-    let f = digits(s, i, 4);
-    if !f.fits {
-        return NONE;
-    }
-    if is_serial(f.value) { f } else { NONE }
+    digits(s, i, 4).filter(|f| is_serial(f.value))
 }
 
 // `SW`, two letters and a serial, without gaps.
-fn designator(s: &[u8]) -> Found
+fn designator(s: &[u8]) -> Option<Found>
     ensures { Designated s.now result }
 {
-    let sw = word(s, 0, b"SW", 0);
-    if !sw.fits {
-        return NONE;
+    word(s, 0, b"SW", 0)?;
+    if counted(s, 2, Class::Letters, 2) {
+        serial(s, 4)
+    } else {
+        None
     }
-    if counted(s, 2, LETTERS, 2) {
-        return serial(s, 4);
-    }
-    NONE
 }
 
-// A gap, and then an observation time.
-fn gap_time(s: &[u8]) -> Found
-    ensures { Held s.now (read_gap read_time s.now) result }
+// A gap at `i`, and then an observation time.
+fn gap_time(s: &[u8], i: usize) -> Option<Found>
+    ensures { Held s.now (read_gap read_time (drop i s.now)) result }
 {
-    let gap = word(s, 0, b" ", 0);
-    if !gap.fits {
-        return NONE;
-    }
-    let f = digits(s, gap.next, 8);
-    if !f.fits {
-        return NONE;
-    }
-    if real_time(f.value) { f } else { NONE }
+    let gap = word(s, i, b" ", 0)?;
+    digits(s, gap.next, 8).filter(|f| real_time(f.value))
 }
-
-const NO_HEADING: HeadingRead = HeadingRead {
-    fits: false,
-    title: Title {
-        region: [0u8; 2],
-        serial: 0,
-        aerodrome: [0u8; 4],
-    },
-    time: 0,
-};
 
 // Line 3: `SW`, two letters and a serial; the aerodrome; an observation time.
-pub fn read_heading(line: &[u8]) -> HeadingRead
-    ensures { result ≡ heading_answer (whole (read_heading line.now)) }
+pub fn read_heading(line: &[u8]) -> Option<Heading>
+    ensures { result ≡ found (whole (read_heading line.now)) }
 {
-    let d = designator(line);
-    if !d.fits {
-        return NO_HEADING;
+    let serial = designator(line)?;
+    let aerodrome = gap_letters(line, serial.next, 4)?;
+    let time = gap_time(line, aerodrome.next)?;
+    if time.next < line.len() {
+        return None;
     }
-    let at = d.next;
-    let group = gap_letters(&line[at..], 4);
-    if !group.fits {
-        return NO_HEADING;
-    }
-    let start = at + group.start;
-    let next = at + group.next;
-    let time = gap_time(&line[next..]);
-    if !time.fits {
-        return NO_HEADING;
-    }
-    if time.next < line.len() - next {
-        return NO_HEADING;
-    }
-    HeadingRead {
-        fits: true,
+    Some(Heading {
         title: Title {
-            region: two(&line[2..4]),
-            serial: d.value as u16,
-            aerodrome: four(&line[start..next]),
+            region: bytes(&line[2..4]),
+            serial: serial.value as u16,
+            aerodrome: bytes(&line[aerodrome.start..aerodrome.next]),
         },
         time: time.value,
-    }
+    })
 }
 
 // Line 4: `(SNOWTAM` and a serial.
-pub fn read_serial(line: &[u8]) -> Found
+pub fn read_serial(line: &[u8]) -> Option<Found>
     ensures { Held line.now (whole (read_serial_line line.now)) result }
 {
-    let f = word(line, 0, b"(SNOWTAM ", 0);
-    if !f.fits {
-        return NONE;
+    let word = word(line, 0, b"(SNOWTAM ", 0)?;
+    let serial = serial(line, word.next)?;
+    if serial.next < line.len() {
+        return None;
     }
-    let n = serial(line, f.next);
-    if n.next < line.len() {
-        return NONE;
-    }
-    n
+    Some(serial)
 }
 
 // Whether a text is `n` letters and nothing more.
 fn is_letters(s: &[u8], n: usize) -> bool
     ensures { result ≡ is_letters n s.now }
 {
-    if s.len() == n {
-        counted(s, 0, LETTERS, n)
-    } else {
-        false
-    }
+    s.len() == n && counted(s, 0, Class::Letters, n)
 }
 
 // Line 5: an aerodrome.
-pub fn read_aerodrome(line: &[u8]) -> AerodromeRead
-    ensures { result ≡ aerodrome_answer (whole (read_aerodrome line.now)) }
+pub fn read_aerodrome(line: &[u8]) -> Option<[u8; 4]>
+    ensures { result ≡ found (whole (read_aerodrome line.now)) }
 {
     if is_letters(line, 4) {
-        AerodromeRead {
-            fits: true,
-            aerodrome: four(line),
-        }
+        Some(bytes(line))
     } else {
-        AerodromeRead {
-            fits: false,
-            aerodrome: [0u8; 4],
-        }
+        None
     }
 }
 
@@ -420,100 +252,67 @@ pub fn read_aerodrome(line: &[u8]) -> AerodromeRead
 fn holds_addresses(letters: &[u8], count: u8) -> bool
     ensures { result ≡ (all (is_letters 8) (slots 8 count letters.now) and all is_zero (past_slots 8 count letters.now)) }
 {
-    let n = (count as usize) * ADDRESS_SIZE;
-    if counted(letters, 0, LETTERS, n) {
-        zeros_from(letters, n)
-    } else {
-        false
-    }
+    let n = usize::from(count) * ADDRESS_SIZE;
+    counted(letters, 0, Class::Letters, n) && zeros_from(letters, n)
 }
 
 fn is_priority(p: u8) -> bool
     ensures { result ≡ member priorities p }
 {
-    if 1 == p {
-        return true;
-    }
-    2 == p
+    matches!(p, 1 | 2)
 }
 
 // GG or DD, 1 to 8 addresses of letters, zeros past them.
 pub fn valid_addresses(a: Addresses) -> bool
     ensures { result ≡ valid_addresses a }
 {
-    if is_priority(a.priority) {
-        if a.count < 1 {
-            return false;
-        }
-        if MOST_ADDRESSES < a.count {
-            return false;
-        }
-        let letters = a.letters;
-        return holds_addresses(&letters, a.count);
-    }
-    false
+    is_priority(a.priority)
+        && 1 <= a.count
+        && a.count <= MOST_ADDRESSES
+        && holds_addresses(&a.letters, a.count)
 }
 
 // A real filing time, and an originator of letters.
 pub fn valid_filing(f: Filing) -> bool
     ensures { result ≡ valid_filing f }
 {
-    if real_filing(f.time) {
-        let originator = f.originator;
-        return is_letters(&originator, 8);
-    }
-    false
+    real_filing(f.time) && is_letters(&f.originator, 8)
 }
 
 // A region and an aerodrome of letters, and a serial 0001 to 9999.
 pub fn valid_title(t: Title) -> bool
     ensures { result ≡ valid_title t }
 {
-    let region = t.region;
-    if is_letters(&region, 2) {
-        if is_serial(t.serial as u32) {
-            let aerodrome = t.aerodrome;
-            return is_letters(&aerodrome, 4);
-        }
-    }
-    false
+    is_letters(&t.region, 2) && is_serial(u32::from(t.serial)) && is_letters(&t.aerodrome, 4)
 }
 
 fn put_priority(rest: &mut [u8], priority: u8) -> usize
     ensures { Put 0 (canonical (spell (priority_name priority))) rest.old rest.new result }
 {
-    if priority == 1 {
-        return put(rest, 0, b"GG");
+    match priority {
+        1 => put(rest, 0, b"GG"),
+        2 => put(rest, 0, b"DD"),
+        _ => put(rest, 0, b""),
     }
-    if priority == 2 {
-        return put(rest, 0, b"DD");
-    }
-    put(rest, 0, b"")
 }
 
 // A gap and the address at a place of the list; past the array there is none.
-fn put_address(rest: &mut [u8], at: usize, letters: [u8; 64], i: u8) -> usize
-    ensures { Put at (canonical (address_pieces (take 8 (drop (i * 8) letters)))) rest.old rest.new result }
+fn put_address(rest: &mut [u8], at: usize, letters: &[u8], i: u8) -> usize
+    ensures { Put at (canonical (address_pieces (take 8 (drop (i * 8) letters.now)))) rest.old rest.new result }
 {
-    let start = (i as usize) * ADDRESS_SIZE;
-    let behind = put(rest, at, b" ");
-    if MOST_ADDRESSES <= i {
-        return put(rest, behind, b"");
-    }
-    let end = start + ADDRESS_SIZE;
-    put(rest, behind, &letters[start..end])
+    let start = (usize::from(i) * ADDRESS_SIZE).min(letters.len());
+    let end = (start + ADDRESS_SIZE).min(letters.len());
+    let at = put(rest, at, b" ");
+    put(rest, at, &letters[start..end])
 }
 
 // Puts line 1 into the rest of a buffer, and answers how many bytes it has.
 pub fn put_addresses(rest: &mut [u8], a: Addresses) -> usize
     ensures { Put 0 (canonical (addresses_pieces a)) rest.old rest.new result }
 {
-    let letters = a.letters;
     let mut at = put_priority(rest, a.priority);
-    let mut i: u8 = 0;
-    while i < a.count {
-        at = put_address(rest, at, letters, i);
-        i += 1;
+    for i in 0..a.count {
+        at = put_address(rest, at, &a.letters, i);
     }
     at
 }
@@ -522,10 +321,9 @@ pub fn put_addresses(rest: &mut [u8], a: Addresses) -> usize
 pub fn put_filing(rest: &mut [u8], f: Filing) -> usize
     ensures { Put 0 (canonical (filing_pieces f)) rest.old rest.new result }
 {
-    let originator = f.originator;
     let at = put_digits(rest, 0, 6, f.time);
     let at = put(rest, at, b" ");
-    put(rest, at, &originator)
+    put(rest, at, &f.originator)
 }
 
 fn put_designator(rest: &mut [u8], region: [u8; 2], serial: u16) -> usize
@@ -533,20 +331,18 @@ fn put_designator(rest: &mut [u8], region: [u8; 2], serial: u16) -> usize
 {
     let at = put(rest, 0, b"SW");
     let at = put(rest, at, &region);
-    put_digits(rest, at, 4, serial as u32)
+    put_digits(rest, at, 4, u32::from(serial))
 }
 
 // Puts line 3, with the time that is worked out from the rows.
-pub fn put_heading(rest: &mut [u8], t: Title, time: u32) -> usize
-    ensures { Put 0 (canonical (heading_pieces (record { title = t; time = time }))) rest.old rest.new result }
+pub fn put_heading(rest: &mut [u8], h: Heading) -> usize
+    ensures { Put 0 (canonical (heading_pieces h)) rest.old rest.new result }
 {
-    let region = t.region;
-    let aerodrome = t.aerodrome;
-    let at = put_designator(rest, region, t.serial);
+    let at = put_designator(rest, h.title.region, h.title.serial);
     let at = put(rest, at, b" ");
-    let at = put(rest, at, &aerodrome);
+    let at = put(rest, at, &h.title.aerodrome);
     let at = put(rest, at, b" ");
-    put_digits(rest, at, 8, time)
+    put_digits(rest, at, 8, h.time)
 }
 
 // Puts line 4.
@@ -554,7 +350,7 @@ pub fn put_serial(rest: &mut [u8], serial: u16) -> usize
     ensures { Put 0 (canonical (serial_pieces serial)) rest.old rest.new result }
 {
     let at = put(rest, 0, b"(SNOWTAM ");
-    put_digits(rest, at, 4, serial as u32)
+    put_digits(rest, at, 4, u32::from(serial))
 }
 
 // Puts line 5.

@@ -10,7 +10,7 @@ ghost use Rattle.text.specs.Put.{Put};
 ghost use Rattle.text.specs.Arrays.{slots};
 ghost use Rattle.items.specs.Item.{letters, on_runway, highest_for, is_between, runway_fits, amount_fits, edge_fits, count_fits, valid_slot, is_new, slots_fit, taxiways_fit, name_fits, numbers_fit, valid_item};
 ghost use Rattle.items.specs.Awareness.{same_runway, other_apron, may_repeat, may_follow, sound_items, is_blank, no_numbers, blank_item, is_blank_item};
-ghost use Rattle.items.specs.Parts.{holds_items, holds_language};
+ghost use Rattle.items.specs.Parts.{items_of, language_of, holds_items, holds_language};
 ghost use Rattle.items.specs.Language.{valid_language};
 ghost use Rattle.items.specs.Code.Held.{SlotEnd};
 
@@ -18,11 +18,12 @@ pub mod words;
 
 use fill::put;
 use runway::valid_runway;
-use scan::{CAPITALS_AND_DIGITS, LETTERS, all_plain, counted, run, same_bytes, zeros_from};
+use scan::{all_plain, counted, run, same_bytes, zeros_from};
+use text::Class;
 
 // An awareness item, zeros in every field that its letter does not use.
 #[repr(C)]
-#[derive(Clone, Copy)]
+#[derive(Clone, Copy, PartialEq, Eq)]
 pub struct Item {
     // I: the length; M: the distance
     pub amount: u16,
@@ -51,10 +52,37 @@ pub struct Items {
 
 // Up to 400 bytes of plain language, zeros past the length.
 #[repr(C)]
-#[derive(Clone, Copy)]
+#[derive(Clone, Copy, PartialEq, Eq)]
 pub struct Language {
     pub length: u16,
     pub bytes: [u8; 400],
+}
+
+impl Items {
+    // The items that count; the array is all that a wrong count can show.
+    pub fn listed(&self) -> &[Item]
+        ensures { result.now ≡ items_of self.now }
+    {
+        if self.count <= MOST_ITEMS {
+            &self.items[..usize::from(self.count)]
+        } else {
+            &self.items
+        }
+    }
+}
+
+impl Language {
+    // The bytes that count; the array is all that a wrong length can show.
+    pub fn text(&self) -> &[u8]
+        ensures { result.now ≡ language_of self.now }
+    {
+        let length = usize::from(self.length);
+        if length <= MOST_LANGUAGE {
+            &self.bytes[..length]
+        } else {
+            &self.bytes
+        }
+    }
 }
 
 pub const MOST_TAXIWAYS: u8 = 8;
@@ -201,8 +229,8 @@ fn valid_slot(s: &[u8]) -> bool
     if s.len() != TAXIWAY_SIZE {
         return false;
     }
-    if counted(s, 0, LETTERS, 1) {
-        return zeros_from(s, run(s, 0, CAPITALS_AND_DIGITS));
+    if counted(s, 0, Class::Letters, 1) {
+        return zeros_from(s, run(s, 0, Class::Names));
     }
     false
 }
@@ -265,7 +293,7 @@ fn name_fits(letter: u8, name: &[u8]) -> bool
         return false;
     }
     if letter == b'R' {
-        return zeros_from(name, run(name, 0, CAPITALS_AND_DIGITS));
+        return zeros_from(name, run(name, 0, Class::Names));
     }
     zeros_from(name, 0)
 }
@@ -305,7 +333,7 @@ pub fn valid_item(i: Item) -> bool
 fn is_named(name: &[u8]) -> bool
     ensures { result ≡ head_is is_name name.now }
 {
-    counted(name, 0, CAPITALS_AND_DIGITS, 1)
+    counted(name, 0, Class::Names, 1)
 }
 
 // Two items R: both have names, and not the same.
@@ -515,13 +543,9 @@ pub fn holds_language(l: Language) -> bool
     false
 }
 
-// Puts the first `length` bytes.
-pub fn put_language(rest: &mut [u8], bytes: [u8; 400], length: u16) -> usize
-    ensures { Put 0 (canonical (verbatim (take length bytes))) rest.old rest.new result }
+// Plain language is put as it stands.
+pub fn put_language(out: &mut [u8], language: &[u8]) -> usize
+    ensures { Put 0 (canonical (verbatim language.now)) out.old out.new result }
 {
-    let n = length as usize;
-    if bytes.len() < n {
-        return put(rest, 0, &bytes);
-    }
-    put(rest, 0, &bytes[..n])
+    put(out, 0, language)
 }

@@ -4,7 +4,6 @@ use Rattle.text.specs.Choice.{◌and◌, all}
 use Rattle.text.specs.Piece.{bytes}
 use Rattle.runway.specs.Time.{is_short_month, days_of, real_day, real_clock, real_time, in_season, later}
 use Rattle.runway.specs.Runway.{valid_runway, side_name, side_of, is_side}
-use Rattle.runway.specs.Code.Held.{no_runway}
 
 abbrev last_days : List ℕ
 last_days = 1310000 ∷ 2290000 ∷ 3310000 ∷ 4300000 ∷ 5310000 ∷ 6300000 ∷ 7310000 ∷ 8310000 ∷ 9300000 ∷ 10310000 ∷ 11300000 ∷ 12310000 ∷ []
@@ -77,10 +76,8 @@ pub record Runways : Type 0 where
   pub sides : map (λ s. valid_runway 18 7 s) (0 ∷ 1 ∷ 2 ∷ 3 ∷ 4 ∷ []) ≡ true ∷ true ∷ true ∷ true ∷ false ∷ []
   pub names : map side_name (0 ∷ 1 ∷ 2 ∷ 3 ∷ []) ≡ [] ∷ bytes "L" ∷ bytes "C" ∷ bytes "R" ∷ []
   pub of-bytes : map side_of (bytes "LCRX") ≡ 1 ∷ 2 ∷ 3 ∷ 0 ∷ []
-  -- a misfit is all zero
-  pub nothing : no_runway ≡ record { fits = false; number = 0; side = 0; next = 0 }
   pub are-sides : map is_side (bytes "LCRX") ≡ true ∷ true ∷ true ∷ false ∷ []
 
 pub runways : Runways
 unfolding valid_runway ◌and◌
-runways = record { numbers = refl; higher = refl; sides = refl; names = refl; of-bytes = refl; nothing = refl; are-sides = refl }
+runways = record { numbers = refl; higher = refl; sides = refl; names = refl; of-bytes = refl; are-sides = refl }

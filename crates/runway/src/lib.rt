@@ -15,19 +15,11 @@ use scan::digits;
 // A runway that stands at a place of a text, and the place behind it.
 #[derive(Clone, Copy)]
 pub struct RunwayFound {
-    pub fits: bool,
     pub number: u8,
     // 0 none, 1 L, 2 C, 3 R
     pub side: u8,
     pub next: usize,
 }
-
-pub const NO_RUNWAY: RunwayFound = RunwayFound {
-    fits: false,
-    number: 0,
-    side: 0,
-    next: 0,
-};
 
 fn is_short_month(month: u32) -> bool
     ensures { result ≡ is_short_month month }
@@ -164,20 +156,16 @@ fn side_at(s: &[u8], i: usize) -> Side
 }
 
 // The runway at `i`: any two digits, and its side.
-pub fn read_runway(s: &[u8], i: usize) -> RunwayFound
+pub fn read_runway(s: &[u8], i: usize) -> Option<RunwayFound>
     ensures { HeldRunway s.now (read_runway (drop i s.now)) result }
 {
-    let n = digits(s, i, 2);
-    if !n.fits {
-        return NO_RUNWAY;
-    }
+    let n = digits(s, i, 2)?;
     let d = side_at(s, n.next);
-    RunwayFound {
-        fits: true,
+    Some(RunwayFound {
         number: n.value as u8,
         side: d.side,
         next: d.next,
-    }
+    })
 }
 
 fn put_side(out: &mut [u8], at: usize, side: u8) -> usize

@@ -1,12 +1,14 @@
 -- Spaces counted eight at a time: the number of eight bytes less that of eight spaces ends in as many zero bytes as there are spaces in front.
-use Rattle.std.proofs.Common.{◌≡◌, ℕ, zero, suc, ◌+◌, ◌*◌, ◌/◌, ◌%◌, ◌<◌, ◌≤◌, Bool, true, false, cond, eqb, ltb, List, [], ◌∷◌, length, get_or, take, drop, sym, refl, ap, ◌∙◌, arith, length-drop, length-take, drop-cons, drop-drop, ltb-true, lt-ltb, eqb-true}
+use Rattle.std.proofs.Common.{◌≡◌, ℕ, zero, suc, ◌+◌, ◌-◌, ◌*◌, ◌/◌, ◌%◌, ◌<◌, ◌≤◌, Bool, true, false, cond, eqb, List, [], ◌∷◌, length, get_or, take, drop, sym, refl, ap, ◌∙◌, arith, length-drop, length-take, drop-cons, drop-drop, drop_of_length-le, ltb-true, lt-ltb, eqb-true}
 use lib.Count.{count_trailing_zeros, under}
 use borrow.Author.Tests.{eqb-false}
-use Rattle.text.specs.Choice.{◌and◌, all}
+use Rattle.text.specs.Choice.{all}
 use Rattle.text.specs.Names.{run, past, is_space}
-use Rattle.text.specs.Code.Held.{Reached, low_first, Eight}
-use Rattle.text.specs.Laws.Base.{and-1, and-2}
+use Rattle.text.specs.Code.Held.{Reached, low_first, is_byte}
+use Rattle.text.specs.Laws.Base.{and-1, and-2, and_i}
 use Rattle.text.specs.Laws.Runs.{run-all}
+use Rattle.text.specs.Laws.Held.{part-all}
+use Rattle.std.specs.Array.{IsFirstChunk}
 use Rattle.text.specs.Laws.Passed.{block_in, past-block}
 
 -- j digits more
@@ -61,7 +63,7 @@ abbrev raised : ℕ → ℕ → ℕ
 raised zero q = q
 raised (suc k) q = 256 * raised k q
 
-counts : (l : List ℕ) (d q : ℕ) → all (λ b. ltb b 256) l ≡ true → d + spaces_of (length l) ≡ low_first l + raised (length l) q → count_trailing_zeros (digits_of (length l)) d / 8 ≡ length (run is_space l)
+counts : (l : List ℕ) (d q : ℕ) → all is_byte l ≡ true → d + spaces_of (length l) ≡ low_first l + raised (length l) q → count_trailing_zeros (digits_of (length l)) d / 8 ≡ length (run is_space l)
 unfolding low_first run count_trailing_zeros
 counts [] d q a h = refl
 counts (b ∷ l) d q a h = go (eqb b 32) refl (λ e. counts l e q (and-2 _ _ a))
@@ -78,46 +80,43 @@ counts (b ∷ l) d q a h = go (eqb b 32) refl (λ e. counts l e q (and-2 _ _ a))
         let k = byte-other (digits_of (length l)) d (λ r. eqb-false b 32 e (omega (arith, h, f, r))) in
         omega (arith, k)
 
--- eight bytes one by one
-module _ (m : List ℕ) (i : ℕ) (w : i + 8 ≤ length m) where
-  next : (j k : ℕ) → j < length m → k ≡ suc j → drop j m ≡ get_or m j 0 ∷ drop k m
-  next j k h e = drop-cons m j 0 h ∙ ap (λ (n : ℕ). get_or m j 0 ∷ drop n m) (sym e)
+-- eight bytes as one number, one by one
+low-on : (l : List ℕ) (j k : ℕ) → j < length l → k ≡ suc j → low_first (drop j l) ≡ get_or l j 0 + 256 * low_first (drop k l)
+unfolding low_first
+low-on l j k h e = rw (e, drop-cons l j 0 h)
 
-  taken : take 8 (drop i m) ≡ get_or m i 0 ∷ get_or m (i + 1) 0 ∷ get_or m (i + 2) 0 ∷ get_or m (i + 3) 0 ∷ get_or m (i + 4) 0 ∷ get_or m (i + 5) 0 ∷ get_or m (i + 6) 0 ∷ get_or m (i + 7) 0 ∷ []
-  taken =
-      rw (
-        next i (i + 1) (omega arith) (omega arith),
-        next (i + 1) (i + 2) (omega arith) (omega arith),
-        next (i + 2) (i + 3) (omega arith) (omega arith),
-        next (i + 3) (i + 4) (omega arith) (omega arith),
-        next (i + 4) (i + 5) (omega arith) (omega arith),
-        next (i + 5) (i + 6) (omega arith) (omega arith),
-        next (i + 6) (i + 7) (omega arith) (omega arith),
-        next (i + 7) (i + 8) (omega arith) (omega arith),
-      )
+low-end : (l : List ℕ) (k : ℕ) → length l ≤ k → low_first (drop k l) ≡ 0
+unfolding low_first
+low-end l k h = rw (drop_of_length-le l h)
 
-  -- a byte that was read at the place j
-  abbrev At : ℕ → ℕ → Type 0
-  At j b = (b ≡ get_or m j 0) × (b < 256)
-
-  pub eight-of : {a b c d e f g h : ℕ} → At i a → At (i + 1) b → At (i + 2) c → At (i + 3) d → At (i + 4) e → At (i + 5) f → At (i + 6) g → At (i + 7) h
-      → Eight m i (a + (b + (c + (d + (e + (f + (g + h * 256) * 256) * 256) * 256) * 256) * 256) * 256)
-  unfolding low_first ◌and◌
-  eight-of {a} {b} {c} {d} {e} {f} {g} {h} pa pb pc pd pe pf pg ph =
-      let l : take 8 (drop i m) ≡ a ∷ b ∷ c ∷ d ∷ e ∷ f ∷ g ∷ h ∷ [] = taken ∙ rw (← pa.0, ← pb.0, ← pc.0, ← pd.0, ← pe.0, ← pf.0, ← pg.0, ← ph.0) in
-      record {
-        says = rw l (omega arith);
-        bytes = rw (l, lt-ltb a 256 pa.1, lt-ltb b 256 pb.1, lt-ltb c 256 pc.1, lt-ltb d 256 pd.1, lt-ltb e 256 pe.1, lt-ltb f 256 pf.1, lt-ltb g 256 pg.1, lt-ltb h 256 ph.1);
-      }
+bytes-are : (l : List ℕ) → ((i : ℕ) → get_or l i 0 < 256) → all is_byte l ≡ true
+bytes-are [] h = refl
+bytes-are (x ∷ l) h = and_i (lt-ltb x 256 (h 0)) (bytes-are l (λ i. h (suc i)))
 
 -- eight bytes, and how many of them are spaces in front
-pub leading-spaces : (m : List ℕ) (i v d : ℕ) → Eight m i v → i + 8 ≤ length m → (d + 2314885530818453536) % 18446744073709551616 ≡ v → count_trailing_zeros 64 d / 8 ≡ length (run is_space (take 8 (drop i m)))
-leading-spaces m i v d h w e =
-    let l = take 8 (drop i m) in
-    let n : length l ≡ 8 = simp (length-take, length-drop) (omega arith) in
+pub leading-spaces : (l : List ℕ) (v : ℕ) → length l ≡ 8 → ((i : ℕ) → get_or l i 0 < 256)
+    → v ≡ get_or l 0 0 + get_or l 1 0 * 256 + get_or l 2 0 * 65536 + get_or l 3 0 * 16777216 + get_or l 4 0 * 4294967296 + get_or l 5 0 * 1099511627776
+    + get_or l 6 0 * 281474976710656 + get_or l 7 0 * 72057594037927936
+    → v < 18446744073709551616
+    → count_trailing_zeros 64 ((v + 16131858542891098080) % 18446744073709551616) / 8 ≡ length (run is_space l)
+leading-spaces l v n b e w =
+    let d = (v + 16131858542891098080) % 18446744073709551616 in
     let q = (d + 2314885530818453536) / 18446744073709551616 in
-    let f : d + spaces_of (length l) ≡ low_first l + raised (length l) q = rw n (omega (arith, e, h.says)) in
-    let r : count_trailing_zeros (digits_of (length l)) d / 8 ≡ length (run is_space l) = counts l d q h.bytes f in
+    let low : v ≡ low_first l = omega (
+      arith,
+      e,
+      low-on l 0 1 (omega arith) refl,
+      low-on l 1 2 (omega arith) refl,
+      low-on l 2 3 (omega arith) refl,
+      low-on l 3 4 (omega arith) refl,
+      low-on l 4 5 (omega arith) refl,
+      low-on l 5 6 (omega arith) refl,
+      low-on l 6 7 (omega arith) refl,
+      low-on l 7 8 (omega arith) refl,
+      low-end l 8 (omega arith),
+    ) in
+    let f : d + spaces_of (length l) ≡ low_first l + raised (length l) q = rw n (omega (arith, low, w)) in
+    let r : count_trailing_zeros (digits_of (length l)) d / 8 ≡ length (run is_space l) = counts l d q (bytes-are l b) f in
     ap (λ (k : ℕ). count_trailing_zeros (digits_of k) d / 8) (sym n) ∙ r
 
 -- a run that ends within the first k bytes
@@ -143,3 +142,14 @@ module _ (m : List ℕ) (j : ℕ) (w : j + 8 ≤ length m) {n : ℕ} (e : n ≡ 
 
   pub spaces-on : 8 ≤ n → past is_space (drop (j + 8) m) ≡ past is_space (drop j m)
   spaces-on h = (past-block is_space m j 8 (omega arith) refl (block_in is_space 8 (drop j m) eight-left ∙ run-all is_space (take 8 (drop j m)) (rw length-take (omega arith)))).1
+
+-- the first eight bytes of what is left at j
+module _ (m : List ℕ) (j : ℕ) (b : List ℕ) (h : IsFirstChunk (take (length m - j) (drop j m)) b 8) where
+  rest : take (length m - j) (drop j m) ≡ drop j m
+  rest = part-all j m
+
+  pub chunk-within : j + 8 ≤ length m
+  chunk-within = let e = rw rest at h.enough in omega (arith, e, length-drop j m)
+
+  pub chunk-is : b ≡ take 8 (drop j m)
+  chunk-is = h.same ∙ ap (take 8) rest

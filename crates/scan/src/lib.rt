@@ -2,7 +2,7 @@
 
 #![tactic(auto)]
 
-ghost use Rattle.std.specs.Prelude.{◌≡◌, ◌+◌, ◌<◌, ◌≤◌, length, take, drop, if◌then◌else◌, nat_le};
+ghost use Rattle.std.specs.Prelude.{◌≡◌, ◌⊎◌, ◌+◌, ◌-◌, MatchOption, ◌<◌, ◌≤◌, length, take, drop, if◌then◌else◌, nat_le};
 ghost use Rattle.text.specs.Choice.{all, same_bytes};
 ghost use Rattle.text.specs.Arrays.{is_zero};
 ghost use Rattle.text.specs.Read.{guard, skip, read_word};
@@ -10,82 +10,27 @@ ghost use Rattle.text.specs.Numbers.{read_digits};
 ghost use Rattle.text.specs.Names.{is_letter, is_name, is_plain_byte, in_class, run, past, read_count, is_space};
 ghost use Rattle.text.specs.Code.Held.{Held, Reached, Eight, starts_with, is_got};
 
-use text::{BLOCK, Found, NONE, place};
+use text::{BLOCK, Class, Found, block_passes, each, past, place};
 
-const SPACE: u8 = 32;
+const SPACE: u8 = b' ';
 
-// Classes of bytes: letters, capitals and digits.
-pub const LETTERS: u8 = 0;
+// Eight spaces as one number.
+const EIGHT_SPACES: u64 = 0x2020202020202020;
 
-pub const CAPITALS_AND_DIGITS: u8 = 1;
-
-// Whether a block of spaces stands at `i`.
-fn is_gap(s: &[u8], i: usize) -> bool
-    ensures { result ≡ starts_with 16 is_space (drop i s.now) }
+// How many of eight bytes are spaces before the first that is none. They are taken as one number, the first of them the lowest: a space less a
+// space leaves eight zeros.
+fn leading_spaces(bytes: &[u8; 8]) -> usize
+    ensures { result ≡ length (run is_space bytes.now) }
 {
-    if s.len() < BLOCK {
-        return false;
-    }
-    if s.len() - BLOCK < i {
-        return false;
-    }
-    let mut k = 0;
-    let mut gap = true;
-    while k < BLOCK {
-        if s[i + k] != SPACE {
-            gap = false;
-        }
-        k += 1;
-    }
-    gap
-}
-
-fn octet(b: u8) -> u64
-    ensures { (result ≡ b) × (result < 256) }
-{
-    b as u64
-}
-
-// Eight bytes from `i` on as one number, the first of them the lowest: the machine loads them at once.
-fn eight(s: &[u8], i: usize) -> u64
-    requires { i + 8 ≤ length s.now }
-    ensures { Eight s.now i result }
-{
-    let v = octet(s[i + 7]);
-    let v = octet(s[i + 6]) + v * 256;
-    let v = octet(s[i + 5]) + v * 256;
-    let v = octet(s[i + 4]) + v * 256;
-    let v = octet(s[i + 3]) + v * 256;
-    let v = octet(s[i + 2]) + v * 256;
-    let v = octet(s[i + 1]) + v * 256;
-    octet(s[i]) + v * 256
-}
-
-// Eight spaces as such a number.
-const EIGHT_SPACES: u64 = 2314885530818453536;
-
-// How many of the eight bytes from `i` on are spaces before the first that is none: a space less a space leaves eight zeros.
-fn leading_spaces(s: &[u8], i: usize) -> usize
-    requires { i + 8 ≤ length s.now }
-    ensures { result ≡ length (run is_space (take 8 (drop i s.now))) }
-{
-    let v = eight(s, i);
-    let d = std::num::wrapping_sub_u64(v, EIGHT_SPACES);
-    (u64::trailing_zeros(d) / 8) as usize
+    let d = u64::from_le_bytes(*bytes).wrapping_sub(EIGHT_SPACES);
+    (d.trailing_zeros() / 8) as usize
 }
 
 // Past spaces one by one.
 fn last_spaces(s: &[u8], i: usize) -> usize
     ensures { Reached s.now (skip (drop i s.now)) result }
 {
-    let mut j = place(s, i);
-    while j < s.len() {
-        if s[j] != SPACE {
-            return j;
-        }
-        j += 1;
-    }
-    j
+    past(s, i, |b| b == SPACE)
 }
 
 // Past spaces that are many: by blocks, then by eights, and the last ones before the end one by one.
@@ -93,11 +38,11 @@ fn far_spaces(s: &[u8], i: usize) -> usize
     ensures { Reached s.now (skip (drop i s.now)) result }
 {
     let mut j = place(s, i);
-    while is_gap(s, j) {
+    while block_passes(s, j, |b| b == SPACE) {
         j += BLOCK;
     }
-    while 8 <= s.len() - j {
-        let n = leading_spaces(s, j);
+    while let Some(bytes) = s[j..].first_chunk::<8>() {
+        let n = leading_spaces(bytes);
         if n < 8 {
             return j + n;
         }
@@ -117,216 +62,125 @@ pub fn spaces(s: &[u8], i: usize) -> usize
         return i;
     }
     let j = i + 1;
-    if s.len() - j < 8 {
+    let Some(bytes) = s[j..].first_chunk::<8>() else {
         return last_spaces(s, j);
-    }
-    let n = leading_spaces(s, j);
-    if n < 8 {
-        return j + n;
-    }
-    far_spaces(s, j + 8)
+    };
+    let n = leading_spaces(bytes);
+    if n < 8 { j + n } else { far_spaces(s, j + 8) }
 }
 
 // The value `v` where the text `t` stands at `i`, each of its spaces typed as one or more. Each byte of `t` takes a byte or more, so that what is
 // left is measured at the start and behind each gap, and not for every byte.
-pub fn word(s: &[u8], i: usize, t: &[u8], v: u32) -> Found
+pub fn word(s: &[u8], i: usize, t: &[u8], v: u32) -> Option<Found>
     ensures { Held s.now (read_word t.now v (drop i s.now)) result }
 {
     let mut j = place(s, i);
     if s.len() - j < t.len() {
-        return NONE;
+        return None;
     }
-    let mut k = 0;
-    while k < t.len() {
-        let b = t[k];
+    for (k, &b) in t.iter().enumerate() {
         if s[j] != b {
-            return NONE;
+            return None;
         }
         j += 1;
-        k += 1;
         if b == SPACE {
             j = spaces(s, j);
-            if s.len() - j < t.len() - k {
-                return NONE;
+            if s.len() - j < t.len() - (k + 1) {
+                return None;
             }
         }
     }
-    Found {
-        fits: true,
-        value: v,
-        next: j,
-    }
+    Some(Found { value: v, next: j })
 }
 
-fn wide(b: u8) -> u32
-    ensures { result ≡ b }
+fn digit(b: u8) -> Option<u32>
+    ensures { MatchOption result ((b < 48) ⊎ (57 < b)) (λ d. (48 ≤ b) × (b ≤ 57) × (d ≡ b - 48)) }
 {
-    b as u32
+    if matches!(b, b'0'..=b'9') {
+        Some(u32::from(b - b'0'))
+    } else {
+        None
+    }
 }
 
 // The number in `n` digits at `i`; more than nine are none.
-pub fn digits(s: &[u8], i: usize, n: usize) -> Found
+pub fn digits(s: &[u8], i: usize, n: usize) -> Option<Found>
     ensures { Held s.now (guard (nat_le n 9) (read_digits n (drop i s.now))) result }
 {
-    if 9 < n {
-        return NONE;
+    let start = place(s, i);
+    if 9 < n || s.len() - start < n {
+        return None;
     }
-    let mut j = place(s, i);
-    if s.len() - j < n {
-        return NONE;
+    let mut value = 0;
+    for &b in &s[start..start + n] {
+        value = value * 10 + digit(b)?;
     }
-    let mut k = 0;
-    let mut value: u32 = 0;
-    while k < n {
-        let b = wide(s[j]);
-        if b < 48 {
-            return NONE;
-        }
-        if 57 < b {
-            return NONE;
-        }
-        value = value * 10 + (b - 48);
-        j += 1;
-        k += 1;
-    }
-    Found {
-        fits: true,
+    Some(Found {
         value,
-        next: j,
-    }
+        next: start + n,
+    })
 }
 
 fn is_letter(c: u8) -> bool
     ensures { result ≡ is_letter c }
 {
-    if c < 65 {
-        return false;
-    }
-    c <= 90
+    matches!(c, b'A'..=b'Z')
 }
 
 fn is_name(c: u8) -> bool
     ensures { result ≡ is_name c }
 {
-    if 48 <= c {
-        if c <= 57 {
-            return true;
-        }
-    }
-    is_letter(c)
+    matches!(c, b'0'..=b'9' | b'A'..=b'Z')
 }
 
 // The bytes of plain language lie in three stretches: the space, `+` to `:` with the digits among them, and the letters.
 fn is_plain(c: u8) -> bool
     ensures { result ≡ is_plain_byte c }
 {
-    if c == SPACE {
-        return true;
-    }
-    if c < b'+' {
-        return false;
-    }
-    if c <= b':' {
-        return true;
-    }
-    is_letter(c)
+    matches!(c, b' ' | b'+'..=b':' | b'A'..=b'Z')
 }
 
-fn in_class(class: u8, c: u8) -> bool
+fn in_class(class: Class, c: u8) -> bool
     ensures { result ≡ in_class class c }
 {
-    if class == LETTERS {
-        return is_letter(c);
+    match class {
+        Class::Letters => is_letter(c),
+        Class::Names => is_name(c),
     }
-    is_name(c)
 }
 
 // The place behind the longest run of bytes of a class from `i` on.
-pub fn run(s: &[u8], i: usize, class: u8) -> usize
+pub fn run(s: &[u8], i: usize, class: Class) -> usize
     ensures { Reached s.now (past (in_class class) (drop i s.now)) result }
 {
-    let mut j = place(s, i);
-    while j < s.len() {
-        if in_class(class, s[j]) {
-            j += 1;
-        } else {
-            return j;
-        }
-    }
-    j
+    past(s, i, |c| in_class(class, c))
 }
 
 // Whether `n` bytes of a class stand at `i`.
-pub fn counted(s: &[u8], i: usize, class: u8, n: usize) -> bool
+pub fn counted(s: &[u8], i: usize, class: Class, n: usize) -> bool
     ensures { result ≡ is_got (read_count (in_class class) n (drop i s.now)) }
 {
-    let mut j = place(s, i);
-    let mut left = n;
-    while 0 < left {
-        if s.len() <= j {
-            return false;
-        }
-        if in_class(class, s[j]) {
-            j += 1;
-            left -= 1;
-        } else {
-            return false;
-        }
-    }
-    true
+    let rest = &s[place(s, i)..];
+    n <= rest.len() && rest[..n].iter().all(|&c| in_class(class, c))
 }
 
-// 0 for a byte of plain language, 1 for any other.
-fn oddness(c: u8) -> u8
-    ensures { result ≡ (if is_plain_byte c then 0 else 1) }
-{
-    if is_plain(c) { 0 } else { 1 }
-}
-
-// Whether all bytes are those of plain language. The loop looks for the greatest oddness and has no way out, as over a block.
+// Whether all bytes are those of plain language.
 pub fn all_plain(s: &[u8]) -> bool
     ensures { result ≡ all is_plain_byte s.now }
 {
-    let mut j = 0;
-    let mut most: u8 = 0;
-    while j < s.len() {
-        let x = oddness(s[j]);
-        if most < x {
-            most = x;
-        }
-        j += 1;
-    }
-    most == 0
+    each(s, is_plain)
 }
 
-// Whether only zeros stand from `i` on; the loop has no way out, as over a block.
+// Whether only zeros stand from `i` on.
 pub fn zeros_from(s: &[u8], i: usize) -> bool
     ensures { result ≡ all is_zero (drop i s.now) }
 {
-    let mut j = i;
-    let mut zeros = true;
-    while j < s.len() {
-        if s[j] != 0 {
-            zeros = false;
-        }
-        j += 1;
-    }
-    zeros
+    each(&s[place(s, i)..], |b| b == 0)
 }
 
 // Whether the bytes of both are the same.
 pub fn same_bytes(a: &[u8], b: &[u8]) -> bool
     ensures { result ≡ same_bytes a.now b.now }
 {
-    let mut i = 0;
-    while i < a.len() {
-        if b.len() <= i {
-            return false;
-        }
-        if a[i] != b[i] {
-            return false;
-        }
-        i += 1;
-    }
-    b.len() <= i
+    a == b
 }

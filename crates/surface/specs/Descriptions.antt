@@ -1,6 +1,7 @@
 -- The fifteen descriptions of document 01, numbered in its order, and NR; Table 3 of document 000, of those that have a depth.
-use Rattle.std.specs.Prelude.{ℕ, List, [], ◌∷◌, map, Bool, eqb, leb}
-use Rattle.text.specs.Choice.{◌and◌, member, first_fitting}
+use Rattle.std.specs.Prelude.{ℕ, List, [], ◌∷◌, map, Option, Bool, eqb, leb}
+use Rattle.std.specs.List.{find}
+use Rattle.text.specs.Choice.{◌and◌, member}
 use Rattle.text.specs.Names.{name_at}
 use Rattle.surface.specs.declared.Contaminant.{Contaminant}
 
@@ -97,13 +98,9 @@ table3 =
     ∷ contaminant dry_snow 3 20  -- 干雪 03 20
     ∷ []
 
--- what stands for a line where there is none
-abbrev pub no_line : Contaminant
-no_line = contaminant not_reported 0 0
-
--- the line of a description
-abbrev pub line_of : ℕ → Contaminant
-line_of d = first_fitting (λ l. eqb l.0 d) (λ l. l) no_line table3
+-- the line of a description, if it has one
+abbrev pub line_of : ℕ → Option Contaminant
+line_of d = find (λ l. eqb l.0 d) table3
 
 -- the deep ones, which have a line: "STANDING WATER (from 04), SLUSH, WET SNOW and DRY SNOW (each from 03)"
 unfoldable pub is_deep : ℕ → Bool

@@ -4,6 +4,7 @@ pub mod Descriptions
 pub mod Third
 pub mod Table1
 pub mod Assess
+pub mod Code
 pub mod Edges
 pub mod Pins
 pub mod Laws

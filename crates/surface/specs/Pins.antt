@@ -1,5 +1,5 @@
 -- Tables that the checker evaluates: each number, word and bound of the definitions with its neighbours.
-use Rattle.std.specs.Prelude.{ℕ, zero, suc, ◌≡◌, refl, List, [], ◌∷◌, map, cond, Bool, true, false, eqb, ℤ, pos, negsuc}
+use Rattle.std.specs.Prelude.{ℕ, zero, suc, ◌≡◌, refl, List, [], ◌∷◌, map, Some, None, cond, Bool, true, false, eqb, ℤ, pos, negsuc}
 use Rattle.text.specs.Choice
 use Rattle.text.specs.Piece.{bytes}
 use Rattle.surface.specs.declared.Observation.{Observation}
@@ -101,7 +101,7 @@ validity =
 
 -- the lines of Table 3, and what has none
 lines : map line_of (standing_water ∷ slush ∷ wet_snow ∷ dry_snow ∷ frost ∷ [])
-    ≡ contaminant standing_water 4 3 ∷ contaminant slush 3 3 ∷ contaminant wet_snow 3 5 ∷ contaminant dry_snow 3 20 ∷ contaminant not_reported 0 0 ∷ []
+    ≡ Some (contaminant standing_water 4 3) ∷ Some (contaminant slush 3 3) ∷ Some (contaminant wet_snow 3 5) ∷ Some (contaminant dry_snow 3 20) ∷ None ∷ []
 lines = refl
 
 -- the codes of the entries of Table 1, in its order

@@ -1,5 +1,6 @@
 -- A third of a runway, and what it may hold.
-use Rattle.std.specs.Prelude.{ℕ, [], ◌∷◌, cond, Bool, true, eqb, leb}
+use Rattle.std.specs.Prelude.{ℕ, [], ◌∷◌, unwrap_or, cond, Bool, true, eqb, leb}
+use Rattle.std.specs.Option.{option_map}
 use Rattle.text.specs.Choice.{◌and◌, member}
 use Rattle.surface.specs.declared.Third.{Third}
 use Rattle.surface.specs.Descriptions.{not_reported, is_description, is_contaminant, line_of, is_deep}
@@ -30,7 +31,7 @@ valid_coverage t = cond (eqb t.coverage not_reported) true (is_coverage t.covera
 
 -- "STANDING WATER (from 04), SLUSH, WET SNOW and DRY SNOW (each from 03)"
 unfoldable pub least_depth : ℕ → ℕ
-least_depth d = (line_of d).1
+least_depth d = unwrap_or (option_map (λ l. l.1) (line_of d)) 0
 
 -- a depth that is reported of a surface: "only under" the four deep ones, and from the least value on
 unfoldable pub is_reported : ℕ → ℕ → Bool

@@ -3,11 +3,12 @@
 
 #![tactic(auto)]
 
-ghost use Rattle.std.specs.Prelude.{◌≡◌, ◌+◌, ◌<◌, ◌∷◌, true, length, drop};
-ghost use Rattle.surface.specs.Descriptions.{is_contaminant, table3, line_of, is_deep};
+ghost use Rattle.std.specs.Prelude.{◌≡◌};
+ghost use Rattle.surface.specs.Descriptions.{is_contaminant, line_of, is_deep};
 ghost use Rattle.surface.specs.Third.{is_blank_third, is_coverage, valid_coverage, is_reported, valid_depth, valid_third};
-ghost use Rattle.surface.specs.Table1.{table1, is_named, holds, is_for, code_for, can_hold, allows, is_allowed, agrees};
+ghost use Rattle.surface.specs.Table1.{is_named, holds, is_for, code_for, can_hold, allows, is_allowed, agrees};
 ghost use Rattle.surface.specs.Assess.{is_kind, is_temperature, in_range, is_shallow, covered_dry, deep_wet, deep_other, slippery_other, contradictory, coverage_for, uncovered, is_thin_water, reported_kind, reported_depth, covered, assessed, assessing};
+ghost use Rattle.surface.specs.Code.{observed, IsTaken, assessment};
 
 use Condition::{
     Always, DepthOver, DepthTo, NotSlippery, Slippery, TemperatureOver, TemperatureTo,
@@ -18,12 +19,12 @@ use description::{
     SLUSH, STANDING_WATER, WATER_ON_COMPACTED_SNOW, WET, WET_ICE, WET_SNOW,
     WET_SNOW_ON_COMPACTED_SNOW, WET_SNOW_ON_ICE,
 };
-use text::refusal;
+use text::refusal::Refusal;
 
 pub mod description;
 
 #[repr(C)]
-#[derive(Clone, Copy)]
+#[derive(Clone, Copy, PartialEq, Eq)]
 pub struct Third {
     pub code: u8,
     // 25, 50, 75, 100
@@ -56,96 +57,68 @@ pub struct Assessment {
 
 // ---- What a third may hold
 
+pub const BLANK_THIRD: Third = Third {
+    code: 0,
+    coverage: NR,
+    depth: 0,
+    description: NR,
+};
+
+pub fn is_blank_third(t: Third) -> bool
+    ensures { result ≡ is_blank_third t }
+{
+    t == BLANK_THIRD
+}
+
 fn is_contaminant(description: u8) -> bool
     ensures { result ≡ is_contaminant description }
 {
-    if description < COMPACTED_SNOW {
-        return false;
-    }
-    description <= WET_SNOW_ON_ICE
+    (COMPACTED_SNOW..=WET_SNOW_ON_ICE).contains(&description)
 }
 
 pub fn is_coverage(coverage: u32) -> bool
     ensures { result ≡ is_coverage coverage }
 {
-    if 25 == coverage {
-        return true;
-    }
-    if 50 == coverage {
-        return true;
-    }
-    if 75 == coverage {
-        return true;
-    }
-    100 == coverage
+    matches!(coverage, 25 | 50 | 75 | 100)
 }
 
 // A coverage is a number only under a contaminant.
 pub fn valid_coverage(t: Third) -> bool
     ensures { result ≡ valid_coverage t }
 {
-    if t.coverage == NR {
-        return true;
-    }
-    if is_coverage(t.coverage as u32) {
-        return is_contaminant(t.description);
-    }
-    false
+    t.coverage == NR || is_coverage(u32::from(t.coverage)) && is_contaminant(t.description)
 }
 
 // A contaminant that has a depth, the least of it that is reported, and the difference that is a significant change, in millimetres.
+// stays: no plainer: with named fields a line of the table would take five.
 #[derive(Clone, Copy)]
 pub struct Contaminant(pub u8, pub u16, pub u16);
 
-const DEEP: usize = 4;
-
 // One line for each line of Table 3 of document 000, in its order.
-const TABLE_3: [Contaminant; DEEP] = [
+const TABLE_3: [Contaminant; 4] = [
     Contaminant(STANDING_WATER, 4, 3), // 积水 04 03
     Contaminant(SLUSH, 3, 3), // 雪浆 03 03
     Contaminant(WET_SNOW, 3, 5), // 湿雪 03 05
     Contaminant(DRY_SNOW, 3, 20), // 干雪 03 20
 ];
 
-const NO_LINE: Contaminant = Contaminant(NR, 0, 0);
-
-// The line at a place of the table counted from 0: the first of those that are left from there.
-fn contaminant_at(i: usize) -> Contaminant
-    requires { i < length table3 }
-    ensures { drop i table3 ≡ result ∷ drop (i + 1) table3 }
-{
-    TABLE_3[i]
-}
-
-// The line of Table 3 that a kind has, or the one that stands for none: its least depth is 0, and no line's is.
-pub fn line_of(kind: u32) -> Contaminant
+// The line of Table 3 that a kind has.
+pub fn line_of(kind: u8) -> Option<Contaminant>
     ensures { result ≡ line_of kind }
 {
-    let mut i = 0;
-    while i < DEEP {
-        let l = contaminant_at(i);
-        if l.0 as u32 == kind {
-            return l;
-        }
-        i += 1;
-    }
-    NO_LINE
+    TABLE_3.iter().find(|line| line.0 == kind).copied()
 }
 
-fn is_deep(kind: u32) -> bool
+fn is_deep(kind: u8) -> bool
     ensures { result ≡ is_deep kind }
 {
-    line_of(kind).1 != 0
+    line_of(kind).is_some()
 }
 
 fn is_reported(description: u8, depth: u16) -> bool
     ensures { result ≡ is_reported description depth }
 {
-    let line = line_of(description as u32);
-    if line.1 == 0 {
-        return false;
-    }
-    line.1 <= depth
+    line_of(description).is_some_and(|Contaminant(_, least, _)| least <= depth)
 }
 
 pub const GREATEST_DEPTH: u32 = 999;
@@ -153,43 +126,62 @@ pub const GREATEST_DEPTH: u32 = 999;
 pub fn valid_depth(t: Third) -> bool
     ensures { result ≡ valid_depth t }
 {
-    if t.depth == 0 {
-        return true;
-    }
-    if is_reported(t.description, t.depth) {
-        return t.depth as u32 <= GREATEST_DEPTH;
-    }
-    false
+    t.depth == 0 || is_reported(t.description, t.depth) && u32::from(t.depth) <= GREATEST_DEPTH
 }
 
 pub fn valid_third(t: Third) -> bool
     ensures { result ≡ valid_third t }
 {
-    if 6 < t.code {
-        return false;
-    }
-    if DRY < t.description {
-        return false;
-    }
-    if valid_coverage(t) {
-        return valid_depth(t);
-    }
-    false
+    t.code <= 6 && t.description <= DRY && valid_coverage(t) && valid_depth(t)
 }
 
-pub fn is_blank_third(t: Third) -> bool
-    ensures { result ≡ is_blank_third t }
+// ---- A surface, as it was observed
+
+// An observation that is in range: its numbers are as narrow as those of a third.
+#[derive(Clone, Copy)]
+struct Surface {
+    kind: u8,
+    cover: u8,
+    depth: u16,
+    temperature: i32,
+    slippery: bool,
+}
+
+fn is_kind(kind: u32) -> bool
+    ensures { result ≡ is_kind kind }
 {
-    if t.code != 0 {
-        return false;
+    (u32::from(COMPACTED_SNOW)..=u32::from(DRY)).contains(&kind)
+}
+
+fn is_temperature(temperature: i32) -> bool
+    ensures { result ≡ is_temperature temperature }
+{
+    (-600..=600).contains(&temperature)
+}
+
+fn in_range(o: Observation) -> bool
+    ensures { result ≡ in_range o }
+{
+    is_kind(o.kind) && o.cover <= 100 && o.depth <= GREATEST_DEPTH && is_temperature(o.temperature)
+}
+
+impl TryFrom<Observation> for Surface {
+    type Error = Refusal;
+
+    ghost try_from_gives = { IsTaken };
+
+    fn try_from(o: Observation) -> Result<Self, Refusal> {
+        if !in_range(o) {
+            return Err(Refusal::OutOfRange);
+        }
+        Ok(Surface {
+            kind: o.kind as u8,
+            cover: o.cover as u8,
+            depth: o.depth as u16,
+            temperature: o.temperature,
+            slippery: o.slippery,
+        })
     }
-    if t.coverage != NR {
-        return false;
-    }
-    if t.depth != 0 {
-        return false;
-    }
-    t.description == NR
 }
 
 // ---- Table 1
@@ -208,23 +200,22 @@ pub enum Condition {
     NotSlippery,
     Slippery,
     // millimetres; To takes the figure in, Over does not
-    DepthTo(u32),
-    DepthOver(u32),
+    DepthTo(u16),
+    DepthOver(u16),
     // tenths of a degree Celsius
     TemperatureTo(i32),
     TemperatureOver(i32),
 }
 
 // The code, the kinds of surface, and the condition under which they have the code.
+// stays: no plainer: with named fields an entry of the table would take five lines.
 #[derive(Clone, Copy)]
 pub struct Entry(pub u8, pub Kinds, pub Condition);
 
 const MINUS_15_DEGREES: i32 = -150;
 
-const ENTRIES: usize = 19;
-
 // One line for each entry of Table 1 of document 000, in its order and with its words. WET above 3 mm is refused by 16 before it comes here.
-const TABLE_1: [Entry; ENTRIES] = [
+const TABLE_1: [Entry; 19] = [
     Entry(6, One(DRY), Always), // 干
     Entry(5, One(FROST), Always), // 霜
     Entry(5, One(WET), NotSlippery), // 湿【跑道表面覆盖有任何明显的湿气或深度不超过 3 毫米（含）的水】
@@ -246,262 +237,149 @@ const TABLE_1: [Entry; ENTRIES] = [
     Entry(0, Either(DRY_SNOW_ON_ICE, WET_SNOW_ON_ICE), Always), // 冰面上有干雪或湿雪
 ];
 
-// The entry at a place of the table counted from 0: the first of those that are left from there.
-fn entry_at(i: usize) -> Entry
-    requires { i < length table1 }
-    ensures { drop i table1 ≡ result ∷ drop (i + 1) table1 }
-{
-    TABLE_1[i]
-}
-
 fn is_named(kinds: Kinds, kind: u8) -> bool
     ensures { result ≡ is_named kinds kind }
 {
     match kinds {
         Kinds::One(a) => a == kind,
-        Kinds::Either(a, b) => if a == kind { true } else { b == kind },
+        Kinds::Either(a, b) => a == kind || b == kind,
     }
 }
 
-// The condition holds of the observation.
-fn holds(c: Condition, o: Observation) -> bool
-    ensures { result ≡ holds c o }
+// The condition holds of the surface.
+fn holds(c: Condition, s: Surface) -> bool
+    ensures { result ≡ holds c (observed s) }
 {
     match c {
         Condition::Always => true,
-        Condition::NotSlippery => !o.slippery,
-        Condition::Slippery => o.slippery,
-        Condition::DepthTo(mm) => o.depth <= mm,
-        Condition::DepthOver(mm) => mm < o.depth,
-        Condition::TemperatureTo(tenths) => o.temperature <= tenths,
-        Condition::TemperatureOver(tenths) => tenths < o.temperature,
+        Condition::NotSlippery => !s.slippery,
+        Condition::Slippery => s.slippery,
+        Condition::DepthTo(mm) => s.depth <= mm,
+        Condition::DepthOver(mm) => mm < s.depth,
+        Condition::TemperatureTo(tenths) => s.temperature <= tenths,
+        Condition::TemperatureOver(tenths) => tenths < s.temperature,
     }
 }
 
-fn is_for(e: Entry, kind: u8, o: Observation) -> bool
-    ensures { result ≡ is_for e kind o }
+fn is_for(e: Entry, kind: u8, s: Surface) -> bool
+    ensures { result ≡ is_for e kind (observed s) }
 {
-    let kinds = e.1;
-    if is_named(kinds, kind) {
-        let condition = e.2;
-        return holds(condition, o);
-    }
-    false
+    let Entry(_, kinds, condition) = e;
+    is_named(kinds, kind) && holds(condition, s)
 }
 
 // The code that Table 1 gives a surface of this kind, so observed.
-fn code_for(kind: u8, o: Observation) -> u8
-    ensures { result ≡ code_for kind o }
+fn code_for(kind: u8, s: Surface) -> u8
+    ensures { result ≡ code_for kind (observed s) }
 {
-    let mut i = 0;
-    while i < ENTRIES {
-        let e = entry_at(i);
-        if is_for(e, kind, o) {
-            return e.0;
-        }
-        i += 1;
-    }
-    0
+    TABLE_1
+        .iter()
+        .find(|&&e| is_for(e, kind, s))
+        .map_or(0, |&Entry(code, ..)| code)
 }
 
 // The condition can hold of a surface of which only the reported depth is known.
-fn can_hold(c: Condition, depth: u32) -> bool
+fn can_hold(c: Condition, depth: u16) -> bool
     ensures { result ≡ can_hold c depth }
 {
     match c {
-        Condition::Always => true,
-        Condition::NotSlippery => true,
-        Condition::Slippery => true,
         Condition::DepthTo(mm) => depth <= mm,
         Condition::DepthOver(mm) => mm < depth,
-        Condition::TemperatureTo(_) => true,
-        Condition::TemperatureOver(_) => true,
+        _ => true,
     }
 }
 
 fn allows(e: Entry, t: Third) -> bool
     ensures { result ≡ allows e t }
 {
-    let kinds = e.1;
-    if is_named(kinds, t.description) {
-        if e.0 != t.code {
-            return false;
-        }
-        let condition = e.2;
-        return can_hold(condition, t.depth as u32);
-    }
-    false
+    let Entry(code, kinds, condition) = e;
+    is_named(kinds, t.description) && code == t.code && can_hold(condition, t.depth)
 }
 
 fn is_allowed(t: Third) -> bool
     ensures { result ≡ is_allowed t }
 {
-    let mut i = 0;
-    while i < ENTRIES {
-        let e = entry_at(i);
-        if allows(e, t) {
-            return true;
-        }
-        i += 1;
-    }
-    false
+    TABLE_1.iter().any(|&e| allows(e, t))
 }
 
 // The third's code is one that Table 1 allows its description and depth.
 pub fn agrees(t: Third) -> bool
     ensures { result ≡ agrees t }
 {
-    if t.description == NR {
-        return true;
-    }
-    is_allowed(t)
+    t.description == NR || is_allowed(t)
 }
 
 // ---- Assessing
 
-fn is_kind(kind: u32) -> bool
-    ensures { result ≡ is_kind kind }
-{
-    if kind < COMPACTED_SNOW as u32 {
-        return false;
-    }
-    kind <= DRY as u32
-}
-
-fn is_temperature(temperature: i32) -> bool
-    ensures { result ≡ is_temperature temperature }
-{
-    if -600 <= temperature {
-        return temperature <= 600;
-    }
-    false
-}
-
-fn in_range(o: Observation) -> bool
-    ensures { result ≡ in_range o }
-{
-    if is_kind(o.kind) {
-        if 100 < o.cover {
-            return false;
-        }
-        if GREATEST_DEPTH < o.depth {
-            return false;
-        }
-        return is_temperature(o.temperature);
-    }
-    false
-}
-
-fn is_shallow(depth: u32) -> bool
+fn is_shallow(depth: u16) -> bool
     ensures { result ≡ is_shallow depth }
 {
     depth <= 3
 }
 
-fn covered_dry(o: Observation) -> bool
-    ensures { result ≡ covered_dry o }
+fn covered_dry(s: Surface) -> bool
+    ensures { result ≡ covered_dry (observed s) }
 {
-    if o.kind == DRY as u32 {
-        return 0 < o.cover;
-    }
-    false
+    s.kind == DRY && 0 < s.cover
 }
 
-fn deep_wet(o: Observation) -> bool
-    ensures { result ≡ deep_wet o }
+fn deep_wet(s: Surface) -> bool
+    ensures { result ≡ deep_wet (observed s) }
 {
-    if o.kind == WET as u32 {
-        return !is_shallow(o.depth);
-    }
-    false
+    s.kind == WET && !is_shallow(s.depth)
 }
 
-fn deep_other(o: Observation) -> bool
-    ensures { result ≡ deep_other o }
+fn deep_other(s: Surface) -> bool
+    ensures { result ≡ deep_other (observed s) }
 {
-    if o.kind == WET as u32 {
-        return false;
-    }
-    if is_deep(o.kind) {
-        return false;
-    }
-    0 < o.depth
+    s.kind != WET && !is_deep(s.kind) && 0 < s.depth
 }
 
-fn slippery_other(o: Observation) -> bool
-    ensures { result ≡ slippery_other o }
+fn slippery_other(s: Surface) -> bool
+    ensures { result ≡ slippery_other (observed s) }
 {
-    if o.kind == WET as u32 {
-        return false;
-    }
-    o.slippery
+    s.kind != WET && s.slippery
 }
 
-fn contradictory(o: Observation) -> bool
-    ensures { result ≡ contradictory o }
+fn contradictory(s: Surface) -> bool
+    ensures { result ≡ contradictory (observed s) }
 {
-    if covered_dry(o) {
-        return true;
-    }
-    if deep_wet(o) {
-        return true;
-    }
-    if deep_other(o) {
-        return true;
-    }
-    slippery_other(o)
+    covered_dry(s) || deep_wet(s) || deep_other(s) || slippery_other(s)
 }
 
-fn coverage_for(cover: u32) -> u8
+fn coverage_for(cover: u8) -> u8
     ensures { result ≡ coverage_for cover }
 {
-    if cover <= 25 {
-        return 25;
+    match cover {
+        0..=25 => 25,
+        26..=50 => 50,
+        51..=75 => 75,
+        _ => 100,
     }
-    if cover <= 50 {
-        return 50;
-    }
-    if cover <= 75 {
-        return 75;
-    }
-    100
 }
 
 // Too little cover to report: only that the surface is dry, if it is.
-fn uncovered(kind: u32) -> Third
+fn uncovered(kind: u8) -> Third
     ensures { result ≡ uncovered kind }
 {
-    if kind == DRY as u32 {
-        return Third {
-            code: 6,
-            coverage: NR,
-            depth: 0,
-            description: DRY,
-        };
-    }
     Third {
         code: 6,
-        coverage: NR,
-        depth: 0,
-        description: NR,
+        description: if kind == DRY { DRY } else { NR },
+        ..BLANK_THIRD
     }
 }
 
-fn is_thin_water(o: Observation) -> bool
-    ensures { result ≡ is_thin_water o }
+fn is_thin_water(s: Surface) -> bool
+    ensures { result ≡ is_thin_water (observed s) }
 {
-    if o.kind == STANDING_WATER as u32 {
-        return is_shallow(o.depth);
-    }
-    false
+    s.kind == STANDING_WATER && is_shallow(s.depth)
 }
 
 // Standing water that is no deeper than 3 mm is reported as WET.
-fn reported_kind(o: Observation) -> u8
-    requires { in_range o ≡ true }
-    ensures { result ≡ reported_kind o }
+fn reported_kind(s: Surface) -> u8
+    ensures { result ≡ reported_kind (observed s) }
 {
-    if is_thin_water(o) { WET } else { o.kind as u8 }
+    if is_thin_water(s) { WET } else { s.kind }
 }
 
 fn reported_depth(kind: u8, depth: u16) -> u16
@@ -510,55 +388,48 @@ fn reported_depth(kind: u8, depth: u16) -> u16
     if is_reported(kind, depth) { depth } else { 0 }
 }
 
-fn covered(kind: u8, o: Observation) -> Third
-    requires { in_range o ≡ true }
-    ensures { result ≡ covered kind o }
+fn covered(kind: u8, s: Surface) -> Third
+    ensures { result ≡ covered kind (observed s) }
 {
     Third {
-        code: code_for(kind, o),
-        coverage: coverage_for(o.cover),
-        depth: reported_depth(kind, o.depth as u16),
+        code: code_for(kind, s),
+        coverage: coverage_for(s.cover),
+        depth: reported_depth(kind, s.depth),
         description: kind,
     }
 }
 
-const LEAST_COVER: u32 = 10;
+const LEAST_COVER: u8 = 10;
 
-fn assessed(o: Observation) -> Third
-    requires { in_range o ≡ true }
-    ensures { result ≡ assessed o }
+fn assessed(s: Surface) -> Third
+    ensures { result ≡ assessed (observed s) }
 {
-    if o.cover < LEAST_COVER {
-        return uncovered(o.kind);
+    if s.cover < LEAST_COVER {
+        return uncovered(s.kind);
     }
-    covered(reported_kind(o), o)
+    covered(reported_kind(s), s)
 }
 
-pub const BLANK_THIRD: Third = Third {
-    code: 0,
-    coverage: NR,
-    depth: 0,
-    description: NR,
-};
+// The third as it is to be reported.
+fn reported(o: Observation) -> Result<Third, Refusal>
+    ensures { assessment result ≡ assessing o }
+{
+    let s = Surface::try_from(o)?;
+    if contradictory(s) {
+        return Err(Refusal::Contradiction);
+    }
+    Ok(assessed(s))
+}
 
 // Refusal 15 for what is out of range, 16 for what contradicts itself; else the third as it is to be reported.
 pub fn assess(o: Observation) -> Assessment
     ensures { result ≡ assessing o }
 {
-    if in_range(o) {
-        if contradictory(o) {
-            return Assessment {
-                refusal: refusal::CONTRADICTION,
-                third: BLANK_THIRD,
-            };
-        }
-        return Assessment {
-            refusal: 0,
-            third: assessed(o),
-        };
-    }
-    Assessment {
-        refusal: refusal::OUT_OF_RANGE,
-        third: BLANK_THIRD,
+    match reported(o) {
+        Ok(third) => Assessment { refusal: 0, third },
+        Err(refusal) => Assessment {
+            refusal: refusal.number(),
+            third: BLANK_THIRD,
+        },
     }
 }

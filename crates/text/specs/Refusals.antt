@@ -1,5 +1,7 @@
 -- Why something is refused, by number: document 01, "Refusal numbers". 0 means accepted, taken or written.
 use Rattle.std.specs.Prelude.{ℕ}
+use Rattle.text.specs.declared.refusal.Refusal.{Refusal}
+use Rattle.text.specs.declared.refusal.Refusal.TheVariants.{TooLong, Line1Or2, Line3, Outline, NoRow, NinthRow, RunwayTwice, WrongItems, WrongLanguage, SerialsDiffer, AerodromesDiffer, NotLatestTime, InvalidRecord, BufferTooShort, OutOfRange, Contradiction, WrongBoard, NotOnBoard, InvalidRow, NotLater, NoReport, OthersRunway, NoDesk, WrongRunway, WrongCodes, WrongCoverageOrDepth, WrongDescriptions, WrongWidth, RunwaysDiffer, RecordCutShort, NumberForm, RadioValue}
 
 -- "message over 4,096 bytes"
 abbrev pub too_long : ℕ
@@ -128,3 +130,38 @@ number_form = 31
 -- "32 a value or row not valid, no row, over eight, a runway twice, or bytes left over"
 abbrev pub radio_value : ℕ
 radio_value = 32
+
+-- the number of each
+abbrev pub number : Refusal → ℕ
+number TooLong = too_long
+number Line1Or2 = line_one_or_two
+number Line3 = line_three
+number Outline = outline
+number NoRow = no_row
+number NinthRow = ninth_row
+number RunwayTwice = runway_twice
+number WrongItems = wrong_items
+number WrongLanguage = wrong_language
+number SerialsDiffer = serials_differ
+number AerodromesDiffer = aerodromes_differ
+number NotLatestTime = not_latest_time
+number InvalidRecord = invalid_record
+number BufferTooShort = buffer_too_short
+number OutOfRange = out_of_range
+number Contradiction = contradiction
+number WrongBoard = wrong_board
+number NotOnBoard = not_on_board
+number InvalidRow = invalid_row
+number NotLater = not_later
+number NoReport = no_report
+number OthersRunway = others_runway
+number NoDesk = no_desk
+number WrongRunway = wrong_runway
+number WrongCodes = wrong_codes
+number WrongCoverageOrDepth = wrong_coverage_or_depth
+number WrongDescriptions = wrong_descriptions
+number WrongWidth = wrong_width
+number RunwaysDiffer = runways_differ
+number RecordCutShort = cut_short
+number NumberForm = number_form
+number RadioValue = radio_value

@@ -1,6 +1,6 @@
 -- The values of the definitions, evaluated: a changed numeral or word fails here.
-use Rattle.std.specs.Prelude.{ℕ, zero, suc, ◌≡◌, refl, List, [], ◌∷◌, map, cond, Bool, true, false}
-use Rattle.text.specs.Code.Held.{none, no_span, is_unfed, starts_with, low_first, is_byte, Eight}
+use Rattle.std.specs.Prelude.{ℕ, zero, suc, ◌≡◌, refl, List, [], ◌∷◌, map, cond, Bool, true, false, None, Some}
+use Rattle.text.specs.Code.Held.{given, behind, bytes_of, is_unfed, starts_with, low_first, is_byte, Eight}
 use Rattle.text.specs.Names.{is_space, is_letter, is_name, is_mark, is_plain_byte, in_class, read_count, run, past, read_name, name_at}
 use Rattle.text.specs.Choice.{◌and◌, is_empty}
 use Rattle.text.specs.Piece.{byte, gap, loose, end, last, nr_groups, bytes, spell, words, verbatim, canonical, nr_text}
@@ -10,6 +10,8 @@ use Rattle.text.specs.Lines.{lines, cut, onward, cuts, end_size, line_size, line
 use Rattle.text.specs.Out.{refuse, taken, place, at_end}
 use Rattle.text.specs.Put.{told, farthest}
 use Rattle.text.specs.Arrays.{pad, slots, past_slots, flat}
+use Rattle.text.specs.declared.Class.TheVariants.{Letters, Names}
+use Rattle.text.specs.declared.Found.{Found}
 
 -- the bytes below n that are of a class, from the highest down
 unfoldable pub class_below : ℕ → (ℕ → Bool) → List ℕ
@@ -22,8 +24,8 @@ pub record Classes : Type 0 where
   pub letter : class_below 256 is_letter ≡ bytes "ZYXWVUTSRQPONMLKJIHGFEDCBA"
   pub name : class_below 256 is_name ≡ bytes "ZYXWVUTSRQPONMLKJIHGFEDCBA9876543210"
   pub language : class_below 256 is_plain_byte ≡ bytes "ZYXWVUTSRQPONMLKJIHGFEDCBA:9876543210/.-,+ "
-  pub zeroth : class_below 256 (in_class 0) ≡ class_below 256 is_letter
-  pub first : class_below 256 (in_class 1) ≡ class_below 256 is_name
+  pub zeroth : class_below 256 (in_class Letters) ≡ class_below 256 is_letter
+  pub first : class_below 256 (in_class Names) ≡ class_below 256 is_name
 
 pub classes : Classes
 unfolding class_below is_mark in_class
@@ -155,8 +157,11 @@ blocks = record { spaces = refl; unfed = refl; starting = refl; whole = refl; by
 
 -- what is answered where nothing is found is all zero
 pub record Nothing : Type 0 where
-  pub found : none ≡ record { fits = false; value = 0; next = 0 }
-  pub bytes : no_span ≡ record { fits = false; start = 0; next = 0 }
+  pub found : given (λ (r : Found). r.value) (λ r. r.next) (65 ∷ 66 ∷ 67 ∷ []) (Some (record { value = 7; next = 2 })) ≡ got 7 (67 ∷ [])
+  pub none : given (λ (r : Found). r.value) (λ r. r.next) (65 ∷ []) None ≡ misfit
+  pub bytes : bytes_of (65 ∷ 66 ∷ 67 ∷ 68 ∷ []) (record { start = 1; next = 3 }) ≡ 66 ∷ 67 ∷ []
+  pub end : behind (λ (r : Found). r.next) (Some (record { value = 7; next = 2 })) ≡ 2
+  pub no_end : behind (λ (r : Found). r.next) None ≡ 0
 
 pub nothing : Nothing
-nothing = record { found = refl; bytes = refl }
+nothing = record { found = refl; none = refl; bytes = refl; end = refl; no_end = refl }

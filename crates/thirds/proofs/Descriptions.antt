@@ -1,28 +1,16 @@
 -- The descriptions tried one after the other, those that can stand by their first byte, and their bytes.
-use Prim.Native.Nat.{ℕ, suc, ◌≤◌, ◌<◌}
-use mathlib.Core.Path.{◌≡◌, refl, sym, ◌∙◌, ap}
-use mathlib.Core.List.{List, [], ◌∷◌, ◌++◌}
-use mathlib.Core.Bool.{cond, Bool, true, false}
-use lib.Dec.{eqb}
-use lib.ListN.{length, drop, get_or, drop_of_length-le}
-use lib.Seq.{drop-cons}
-use borrow.Author.Tests.{eqb-true, ne_eqb}
+use Rattle.std.specs.Prelude.{◌≡◌, ℕ, zero, suc, ◌<◌, ◌≤◌, Option, None, Some, MatchOption, Bool, true, false, cond, eqb, List, [], ◌∷◌, length, drop, filter, slice_index}
+use Rattle.std.proofs.Common.{refl, ◌∙◌, ap, arith, get_or, eqb-true, drop-cons, drop_of_length-le}
 use Rattle.text.specs.Piece.{gap, byte, canonical, canonical1, spell}
-use Rattle.text.specs.Read.{Got, misfit, got, or_else, read_text, read_word}
+use Rattle.text.specs.Read.{Got, misfit, or_else, read_text, read_word}
 use Rattle.text.specs.Names.{read_name}
-use Rattle.text.specs.Code.Held.{Held, none}
-use Rattle.text.specs.Put.{Put}
+use Rattle.text.specs.Code.Held.{Held}
+use Rattle.text.specs.Laws.Base.{true-false}
+use Rattle.text.specs.Laws.Held.{missed}
 use Rattle.text.specs.declared.Found.{Found}
-use Rattle.text.specs.Laws.Base.{else-none, true-false}
-use Rattle.surface.specs.Descriptions.{dry, description_name}
-use Rattle.thirds.specs.Groups.{description_pieces, description_order, read_description}
-use Rattle.thirds.specs.Code.Held.{Tried}
-use Rattle.thirds.specs.Laws.Sizes.{no_name}
-use Rattle.thirds.proofs.Steps.{nothing}
-
-else-assoc : {A : Type 0} (f g h : Got A) → or_else (or_else f g) h ≡ or_else f (or_else g h)
-else-assoc misfit g h = refl
-else-assoc (got a r) g h = refl
+use Rattle.surface.specs.Descriptions.{description_name}
+use Rattle.thirds.specs.Groups.{description_order, read_description}
+use Rattle.thirds.specs.Code.Begin.{can, beginning}
 
 -- the description d alone
 abbrev one : ℕ → List ℕ → Got ℕ
@@ -32,28 +20,28 @@ one d = read_word (description_name d) d
 abbrev one_of : List ℕ → List ℕ → Got ℕ
 one_of = read_name description_name
 
--- one more is tried last
-one_more : (ds : List ℕ) (d : ℕ) (m : List ℕ) → one_of (ds ++ (d ∷ [])) m ≡ or_else (one_of ds m) (one d m)
-unfolding read_name
-one_more [] d m = else-none (one d m)
-one_more (e ∷ ds) d m = rw (one_more ds d m) (sym (else-assoc (one e m) (one_of ds m) (one d m)))
+module _ (m k : List ℕ) where
+  -- the description at the place j does not stand there
+  abbrev Missed : List ℕ → ℕ → Type 0
+  Missed ds j = Held m (one (slice_index ds j) k) None
 
-pub first : (d : ℕ) (k : List ℕ) {m : List ℕ} {r : Found} → Held m (one d k) r → Held m (one_of (d ∷ []) k) r
-unfolding read_name
-first d k h = rw (else-none (one d k)) h
+  pub none_of : (ds : List ℕ) → ((j : ℕ) → j < length ds → Missed ds j) → Held m (one_of ds k) None
+  unfolding read_name
+  none_of [] h = missed refl
+  none_of (d ∷ ds) h = rw (h 0 (omega arith)).says (none_of ds (λ j l. h (suc j) (omega arith)))
 
-pub next : (ds : List ℕ) (d : ℕ) (k : List ℕ) {m : List ℕ} {f r : Found} → Tried m f (one d k) r → Held m (one_of ds k) f → Held m (one_of (ds ++ (d ∷ [])) k) r
-next ds d k h q = rw (one_more ds d k) (h.on q)
+  pub first_of : (ds : List ℕ) (i : ℕ) {f : Found} → i < length ds → Held m (one (slice_index ds i) k) (Some f) → ((j : ℕ) → j < i → Missed ds j)
+      → Held m (one_of ds k) (Some f)
+  unfolding read_name
+  first_of [] i l h b = absurd (omega arith)
+  first_of (d ∷ ds) zero l h b = record { within = h.within; says = rw h.says }
+  first_of (d ∷ ds) (suc i) l h b = rw (b 0 (omega arith)).says (first_of ds i (omega arith) h (λ j q. b (suc j) (omega arith)))
 
--- a text can stand where the byte b does
-abbrev can : ℕ → List ℕ → Bool
-can b [] = true
-can b (c ∷ cs) = eqb c b
-
--- those of the descriptions that can
-abbrev starting : ℕ → List ℕ → List ℕ
-starting b [] = []
-starting b (d ∷ ds) = cond (can b (description_name d)) (d ∷ starting b ds) (starting b ds)
+  -- what `find_map` answers
+  pub found : (ds : List ℕ) (r : Option Found) → MatchOption r ((j : ℕ) → j < length ds → Missed ds j)
+      (λ f. (i : ℕ) × (i < length ds) × Held m (one (slice_index ds i) k) (Some f) × ((j : ℕ) → j < i → Missed ds j)) → Held m (one_of ds k) r
+  found ds None h = none_of ds h
+  found ds (Some f) h = first_of ds h.0 h.1 h.2 h.3
 
 module _ (b : ℕ) (k : List ℕ) where
   cannot : (t : List ℕ) (v : ℕ) → can b t ≡ false → read_word t v (b ∷ k) ≡ misfit
@@ -61,43 +49,33 @@ module _ (b : ℕ) (k : List ℕ) where
   cannot [] v e = true-false e
   cannot (c ∷ cs) v e = rw e
 
-  -- only they are tried
-  only : (ds : List ℕ) → one_of ds (b ∷ k) ≡ one_of (starting b ds) (b ∷ k)
+  -- only those that can stand where the byte b does are tried
+  only : (ds : List ℕ) → one_of ds (b ∷ k) ≡ one_of (filter (λ d. can b (description_name d)) ds) (b ∷ k)
   unfolding read_name
   only [] = refl
   only (d ∷ ds) = rw (only ds) (go (can b (description_name d)) refl)
     where
       rest : List ℕ
-      rest = starting b ds
+      rest = filter (λ d. can b (description_name d)) ds
 
       go : (t : Bool) → can b (description_name d) ≡ t → or_else (one d (b ∷ k)) (one_of rest (b ∷ k)) ≡ one_of (cond t (d ∷ rest) rest) (b ∷ k)
       go true e = refl
       go false e = rw (cannot (description_name d) d e)
 
-module _ (b i : ℕ) (m : List ℕ) (h : i < length m) (e : get_or m i 0 ≡ b) where
-  here : drop i m ≡ b ∷ drop (suc i) m
-  here = drop-cons m i 0 h ∙ ap (λ (x : ℕ). x ∷ drop (suc i) m) e
-
-  -- the byte at i says which descriptions can stand there
-  pub by_byte : {r : Found} → Held m (one_of (starting b description_order) (drop i m)) r → Held m (read_description (drop i m)) r
-  unfolding read_description
-  by_byte q = rw (here, only b (drop (suc i) m) description_order) (rw here at q)
-
-  -- no description begins by any other byte than these
-  pub by-other : (b ≡ 78 → ⊥) → (b ≡ 67 → ⊥) → (b ≡ 68 → ⊥) → (b ≡ 70 → ⊥) → (b ≡ 73 → ⊥) → (b ≡ 83 → ⊥) → (b ≡ 87 → ⊥) → Held m (read_description (drop i m)) none
-  unfolding read_description read_name read_text
-  by-other n c d f i' s w = rw (here, other 78 n, other 67 c, other 68 d, other 70 f, other 73 i', other 83 s, other 87 w) nothing
-    where
-      other : (x : ℕ) → (b ≡ x → ⊥) → eqb x b ≡ false
-      other x h = ne_eqb x b (λ q. h (sym q))
+-- the byte at i says which descriptions can stand there
+pub by_byte : (m : List ℕ) (i b : ℕ) {r : Option Found} → i < length m → get_or m i 0 ≡ b → Held m (one_of (beginning b) (drop i m)) r → Held m (read_description (drop i m)) r
+unfolding beginning read_description
+by_byte m i b l e q =
+    let z : drop i m ≡ b ∷ drop (suc i) m = drop-cons m i 0 l ∙ ap (λ (c : ℕ). c ∷ drop (suc i) m) e in
+    rw (z, only b (drop (suc i) m) description_order) (rw z at q)
 
 -- nothing stands at the end
-pub by_end : (i : ℕ) (m : List ℕ) → length m ≤ i → Held m (read_description (drop i m)) none
+pub by_end : (m : List ℕ) (i : ℕ) → length m ≤ i → Held m (read_description (drop i m)) None
 unfolding read_description read_name read_text
-by_end i m h = rw (drop_of_length-le m h) nothing
+by_end m i h = rw (drop_of_length-le m h) (missed refl)
 
 -- the bytes of a fixed text
-spelled : (cs : List ℕ) → canonical (spell cs) ≡ cs
+pub spelled : (cs : List ℕ) → canonical (spell cs) ≡ cs
 unfolding spell
 spelled [] = refl
 spelled (c ∷ cs) = go (eqb c 32) refl (spelled cs)
@@ -105,11 +83,3 @@ spelled (c ∷ cs) = go (eqb c 32) refl (spelled cs)
     go : (t : Bool) → eqb c 32 ≡ t → canonical (spell cs) ≡ cs → canonical1 (cond t gap (byte c)) (canonical (spell cs)) ≡ c ∷ cs
     go true e h = rw (eqb-true c 32 e, h)
     go false e h = rw h
-
--- the name of n is put for d, which is n
-pub put-name : (n : ℕ) {d at r : ℕ} {b x : List ℕ} → d ≡ n → Put at (description_name n) b x r → Put at (canonical (description_pieces d)) b x r
-put-name n e p = rw (e, spelled (description_name n)) p
-
--- past DRY there is none
-pub put-no-name : (d : ℕ) {at r : ℕ} {b x : List ℕ} → dry < d → Put at [] b x r → Put at (canonical (description_pieces d)) b x r
-put-no-name d h p = rw (spelled (description_name d), no_name d h) p

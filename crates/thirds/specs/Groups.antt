@@ -6,19 +6,8 @@ use Rattle.text.specs.Names.{read_name}
 use Rattle.text.specs.Numbers.{digits, read_digits, number, read_number}
 use Rattle.surface.specs.Descriptions.{not_reported, compacted_snow, dry_snow, dry_snow_on_compacted_snow, dry_snow_on_ice, frost, ice, slush, standing_water}
 use Rattle.surface.specs.Descriptions.{water_on_compacted_snow, wet, wet_ice, wet_snow, wet_snow_on_compacted_snow, wet_snow_on_ice, dry, description_name}
-
--- the groups by number, in the order in which they stand
-abbrev pub codes : ℕ
-codes = 0
-
-abbrev pub coverages : ℕ
-coverages = 1
-
-abbrev pub depths : ℕ
-depths = 2
-
-abbrev pub descriptions : ℕ
-descriptions = 3
+use Rattle.thirds.specs.declared.Group.{Group}
+use Rattle.thirds.specs.declared.Group.TheVariants.{Codes, Coverages, Depths, Descriptions}
 
 -- "NR", or a number in "two digits below 100, three from there"
 unfoldable pub measure_pieces : ℕ → List Piece
@@ -50,22 +39,25 @@ unfoldable pub read_description : List ℕ → Got ℕ
 read_description = read_name description_name description_order
 
 -- the text of one third in each of the groups; "Code: one digit"
-unfoldable pub third_pieces : ℕ → ℕ → List Piece
-third_pieces kind x =
-    cond (eqb kind codes) (digits 1 x)
-    (cond (eqb kind coverages) (measure_pieces x)
-    (cond (eqb kind depths) (measure_pieces x) (description_pieces x)))
+unfoldable pub third_pieces : Group → ℕ → List Piece
+third_pieces Codes = digits 1
+third_pieces Coverages = measure_pieces
+third_pieces Depths = measure_pieces
+third_pieces Descriptions = description_pieces
 
 -- the same read
-unfoldable pub read_third : ℕ → List ℕ → Got ℕ
-read_third kind m =
-    cond (eqb kind codes) (read_digits 1 m)
-    (cond (eqb kind coverages) (read_coverage m)
-    (cond (eqb kind depths) (read_measure m) (read_description m)))
+unfoldable pub read_third : Group → List ℕ → Got ℕ
+read_third Codes = read_digits 1
+read_third Coverages = read_coverage
+read_third Depths = read_measure
+read_third Descriptions = read_description
 
 -- the highest number that a third of a group can show
-unfoldable pub highest : ℕ → ℕ
-highest kind = cond (eqb kind codes) 9 (cond (eqb kind coverages) 100 (cond (eqb kind depths) 999 dry))
+unfoldable pub highest : Group → ℕ
+highest Codes = 9
+highest Coverages = 100
+highest Depths = 999
+highest Descriptions = dry
 
 -- a number for each third
 abbrev pub Three : Type 0
@@ -84,9 +76,9 @@ abbrev pub read_three : (List ℕ → Got ℕ) → List ℕ → Got Three
 read_three f = read_as (λ p. (p.0, p.1.0, p.1.1)) (read_seq f (read_seq (read_after (bytes "/") f) (read_after (bytes "/") f)))
 
 -- a group of thirds, parted by one space from what stands before it
-abbrev pub group_pieces : ℕ → Three → List Piece
-group_pieces kind t = space then joined (third_pieces kind) t
+abbrev pub group_pieces : Group → Three → List Piece
+group_pieces g t = space then joined (third_pieces g) t
 
 -- the same read
-unfoldable pub read_group : ℕ → List ℕ → Got Three
-read_group kind = read_gap (read_three (read_third kind))
+unfoldable pub read_group : Group → List ℕ → Got Three
+read_group g = read_gap (read_three (read_third g))

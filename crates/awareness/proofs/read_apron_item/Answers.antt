@@ -1,72 +1,61 @@
-use Prim.Native.Nat.{◌-◌}
-use mathlib.Core.Path.{refl, sym, ◌∙◌, ap}
-use lib.ListN.{take, drop}
-use borrow.Author.Tests.{not-true, not-false}
+use Rattle.std.specs.Prelude.{[], ◌∷◌, ◌-◌, take, drop}
+use Rattle.std.proofs.Common.{sym, ◌∙◌}
 use Rattle.text.specs.Piece.{bytes}
-use Rattle.text.specs.Read.{got}
-use Rattle.items.specs.declared.Item.{Item}
-use Rattle.items.specs.ReadItem.{is_apron, read_apron, read_apron_form}
-use Rattle.awareness.proofs.Details.{text-there, text-off, text-gapless, text-behind, unread, none-valid, is-valid}
-use Rattle.awareness.proofs.Named.{no_name, right-name, wrong_name, name-there, name-bytes}
+use Rattle.text.specs.Laws.Words.{text-cut}
+use Rattle.items.specs.ReadItem.{is_apron, read_apron}
+use Rattle.awareness.proofs.Details.{unread}
+use Rattle.awareness.proofs.Named.{none_named, name-passes, name-fails, name-bytes}
 use Rattle.awareness.proofs.Forms.{no-apron, apron-unsaid, apron-said, apron-valid, short-apron}
 use Rattle.awareness.proofs.read_apron_item.Goals as goal
 
-pub returns-then-not-name : goal.returns-then-not-name
+pub returns-in_err-span : goal.returns-in_err-span
 unfolding read_apron
-returns-then-not-name c =
-    let a = c.args in
-    let m = drop a.i a.s.now in
-    unread c.no_item.ensures (none-valid read_apron_form m (no-apron m (no_name is_apron a.s.now m c.gap_name-name.ensures (not-true _ c.if-not-name.true))))
+returns-in_err-span c =
+    let m = drop c.args.i c.args.s.now in
+    rw c.from_residual.ensures (unread (rw (no-apron m (none_named is_apron m c.in_err-span.ensures.told.says))))
 
 pub returns-then-not-is_apron : goal.returns-then-not-is_apron
 unfolding read_apron
 returns-then-not-is_apron c =
-    let a = c.args in
-    let m = drop a.i a.s.now in
-    unread c.no_item-then-not-is_apron.ensures (none-valid read_apron_form m (no-apron m (wrong_name is_apron a.s.now m c.gap_name-name.ensures (not-false _ c.if-not-name.false) c.is_apron.ensures c.if-not-is_apron.true)))
+    let m = drop c.args.i c.args.s.now in
+    unread (rw (no-apron m (name-fails is_apron m c.in_ok-span.ensures.told.says (sym c.is_apron.ensures ∙ c.if-not-is_apron.true))))
 
-pub returns-then-not-g : goal.returns-then-not-g
+pub returns-in_err-at : goal.returns-in_err-at
 unfolding read_apron
-returns-then-not-g c =
-    let n = c.gap_name-name in
-    let a = c.args in
-    let s = a.s.now in
-    let m = drop a.i s in
-    unread c.no_item-then-not-g.ensures (none-valid read_apron_form m (apron-unsaid m (right-name is_apron s m n.ensures (not-false _ c.if-not-name.false) c.is_apron.ensures c.if-not-is_apron.false)
-    (text-gapless (bytes "POOR") (drop n.result.next s) c.word-g.ensures (not-true _ c.if-not-g.true))))
+returns-in_err-at c =
+    let m = drop c.args.i c.args.s.now in
+    let k = drop c.in_ok-span.span.next c.args.s.now in
+    let name = name-passes is_apron m c.in_ok-span.ensures.told.says (sym c.is_apron.ensures ∙ c.if-not-is_apron.false) in
+    rw c.from_residual-in_err-at.ensures (unread (rw (apron-unsaid m name (text-cut (32 ∷ []) (bytes "POOR") k ∙ rw c.in_err-at.ensures.says))))
 
-pub returns-then-not-w : goal.returns-then-not-w
+pub returns-in_err-next : goal.returns-in_err-next
 unfolding read_apron
-returns-then-not-w c =
-    let n = c.gap_name-name in
-    let a = c.args in
-    let s = a.s.now in
-    let m = drop a.i s in
-    unread c.no_item-then-not-w.ensures (none-valid read_apron_form m (apron-unsaid m (right-name is_apron s m n.ensures (not-false _ c.if-not-name.false) c.is_apron.ensures c.if-not-is_apron.false)
-    (text-behind (bytes "POOR") (drop n.result.next s) c.word-g.ensures (not-false _ c.if-not-g.false)
-    ∙ text-off (bytes "POOR") (drop c.word-g.result.next s) 0 c.word-w.ensures (not-true _ c.if-not-w.true))))
+returns-in_err-next c =
+    let m = drop c.args.i c.args.s.now in
+    let k = drop c.in_ok-span.span.next c.args.s.now in
+    let name = name-passes is_apron m c.in_ok-span.ensures.told.says (sym c.is_apron.ensures ∙ c.if-not-is_apron.false) in
+    rw c.from_residual-in_err-next.ensures (unread (rw (apron-unsaid m name (text-cut (32 ∷ []) (bytes "POOR") k ∙ rw (c.in_ok-at.ensures.says, c.in_err-next.ensures.says)))))
 
 pub apron_item-requires : goal.apron_item-requires
 unfolding read_apron
 apron_item-requires c =
-    let a = c.args in
-    let m = drop a.i a.s.now in
-    short-apron m (right-name is_apron a.s.now m c.gap_name-name.ensures (not-false _ c.if-not-name.false) c.is_apron.ensures c.if-not-is_apron.false)
+    let m = drop c.args.i c.args.s.now in
+    short-apron m (name-passes is_apron m c.in_ok-span.ensures.told.says (sym c.is_apron.ensures ∙ c.if-not-is_apron.false))
 
 pub returns : goal.returns
 unfolding read_apron
 returns c =
-    let n = c.gap_name-name in
-    let a = c.args in
-    let s = a.s.now in
-    let m = drop a.i s in
-    let w = take (n.result.next - n.result.start) (drop n.result.start s) in
+    let m = drop c.args.i c.args.s.now in
+    let span = c.in_ok-span.span in
+    let k = drop span.next c.args.s.now in
+    let w = take (span.next - span.start) (drop span.start c.args.s.now) in
+    let fits = sym c.is_apron.ensures ∙ c.if-not-is_apron.false in
+    let name = name-passes is_apron m c.in_ok-span.ensures.told.says fits in
     record {
-      within = c.word-w.ensures.within;
-      says = is-valid read_apron_form m (apron-said m (right-name is_apron s m n.ensures (not-false _ c.if-not-name.false) c.is_apron.ensures c.if-not-is_apron.false)
-          (text-behind (bytes "POOR") (drop n.result.next s) c.word-g.ensures (not-false _ c.if-not-g.false)
-          ∙ text-there (bytes "POOR") (drop c.word-g.result.next s) 0 c.word-w.ensures (not-false _ c.if-not-w.false)))
-          (sym (apron-valid w (sym c.is_apron.ensures ∙ c.if-not-is_apron.false) (name-bytes m (name-there n.ensures (not-false _ c.if-not-name.false))))) refl
-          ∙ ap (λ (i : Item). got i (drop c.word-w.result.next s)) (sym c.apron_item.ensures);
-      blank = refl;
+      within = c.in_ok-next.ensures.within;
+      says = rw (
+        c.apron_item.ensures,
+        apron-said m name (drop c.in_ok-next.next c.args.s.now) (text-cut (32 ∷ []) (bytes "POOR") k ∙ rw (c.in_ok-at.ensures.says, c.in_ok-next.ensures.says)),
+        apron-valid w fits (name-bytes m c.in_ok-span.ensures.told.says),
+      );
     }

@@ -1,14 +1,15 @@
--- How the code holds what stands behind TWY and APRON.
-use Rattle.std.specs.Prelude.{ℕ, List, map, true, length}
+-- How the code holds what stands behind TWY.
+use Rattle.std.specs.Prelude.{ℕ, List, Some, map, length}
 use Rattle.text.specs.Arrays.{pad, flat}
+use Rattle.text.specs.Code.Held.{Told}
+use Rattle.text.specs.Read.{Got}
 use Rattle.items.specs.Item.{taxiway_size, taxiway_bytes}
-use Rattle.items.specs.ReadItem.{bare_item}
-use Rattle.awareness.specs.declared.ItemFound.{ItemFound}
+use Rattle.awareness.specs.declared.Taxiways.{Taxiways}
 
 -- taxiways as an item holds them: how many, and three bytes for each
 abbrev pub in_slots : List (List ℕ) → ℕ × List ℕ
 in_slots ws = (length ws, pad taxiway_bytes 0 (flat (map (pad taxiway_size 0) ws)))
 
--- an item of fixed words, found before the place i
-abbrev pub bare_found : ℕ → ℕ → ItemFound
-bare_found l i = record { fits = true; item = bare_item l; next = i }
+-- r is the reading g of taxiways in m; there may be none, so that it always fits
+abbrev pub HeldTaxiways : List ℕ → Got (ℕ × List ℕ) → Taxiways → Type 0
+HeldTaxiways m g r = Told (λ t. (t.count, t.taxiways)) (λ t. t.next) m g (Some r)

@@ -1,15 +1,16 @@
-use Rattle.text.specs.Laws.Tests.{tests}
+use Rattle.std.proofs.Common.{arith}
+use Rattle.text.specs.Choice.{◌and◌}
 use Rattle.due.specs.Change.{change}
 use Rattle.due.proofs.compare.Goals as goal
 
-pub returns-then-same_runway : goal.returns-then-same_runway
-unfolding change
-returns-then-same_runway c = simp (← c.both_valid.ensures, ← c.same_runway.ensures, ← c.compared.ensures) (search tests)
+pub returns-then-not-valid_row : goal.returns-then-not-valid_row
+unfolding change ◌and◌
+returns-then-not-valid_row c = grind arith
 
-pub returns-then-both_valid : goal.returns-then-both_valid
-unfolding change
-returns-then-both_valid c = simp (← c.both_valid.ensures, ← c.same_runway.ensures, ← c.refused.ensures) (search tests)
+pub returns-then-not-same_runway : goal.returns-then-not-same_runway
+unfolding change ◌and◌
+returns-then-not-same_runway c = grind arith
 
 pub returns : goal.returns
-unfolding change
-returns c = simp (← c.both_valid.ensures, ← c.refused-2.ensures) (search tests)
+unfolding change ◌and◌
+returns c = grind arith

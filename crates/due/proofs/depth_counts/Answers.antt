@@ -1,15 +1,11 @@
-use Rattle.text.specs.Laws.Tests.{tests}
+use Rattle.std.proofs.Common.{arith}
 use Rattle.due.specs.Third.{depth_counts}
 use Rattle.due.proofs.depth_counts.Goals as goal
 
 pub returns-then-old-eq0 : goal.returns-then-old-eq0
 unfolding depth_counts
-returns-then-old-eq0 c = search tests
-
-pub returns-then-new-eq0 : goal.returns-then-new-eq0
-unfolding depth_counts
-returns-then-new-eq0 c = search tests
+returns-then-old-eq0 c = grind arith
 
 pub returns : goal.returns
 unfolding depth_counts
-returns c = simp (← c.difference-apart.ensures, ← c.is_significant.ensures) (search tests)
+returns c = grind arith

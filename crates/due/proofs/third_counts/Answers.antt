@@ -1,19 +1,11 @@
-use Rattle.text.specs.Laws.Tests.{tests}
+use Rattle.std.proofs.Common.{arith}
 use Rattle.due.specs.Third.{third_counts}
 use Rattle.due.proofs.third_counts.Goals as goal
 
-pub returns-then-old-new : goal.returns-then-old-new
-unfolding third_counts
-returns-then-old-new c = search tests
-
-pub returns-then-old-new-2 : goal.returns-then-old-new-2
-unfolding third_counts
-returns-then-old-new-2 c = search tests
-
 pub returns-then-old-new-3 : goal.returns-then-old-new-3
 unfolding third_counts
-returns-then-old-new-3 c = search tests
+returns-then-old-new-3 c = grind arith
 
-pub returns : goal.returns
+pub returns-else-old-new-3 : goal.returns-else-old-new-3
 unfolding third_counts
-returns c = simp (← c.depth_counts.ensures) (search tests)
+returns-else-old-new-3 c = grind arith

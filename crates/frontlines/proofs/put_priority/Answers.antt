@@ -1,15 +1,15 @@
+use Rattle.std.proofs.Common.{rules}
 use Rattle.text.specs.Piece.{spell}
 use Rattle.frontlines.proofs.Writes.{no-priority-text}
 use Rattle.frontlines.proofs.put_priority.Goals as goal
 
-pub returns-then-priority-eq1 : goal.returns-then-priority-eq1
+pub returns-in-1 : goal.returns-in-1
 unfolding spell
-returns-then-priority-eq1 c = rw c.if-priority-eq1.true c.put.ensures
+returns-in-1 c = rw c.in-1.is c.put.ensures
 
-pub returns-then-priority-eq2 : goal.returns-then-priority-eq2
+pub returns-in-2 : goal.returns-in-2
 unfolding spell
-returns-then-priority-eq2 c = rw c.if-priority-eq2.true c.put-then-priority-eq2.ensures
+returns-in-2 c = rw c.in-2.is c.put-in-2.ensures
 
-pub returns : goal.returns
-returns c =
-    rw (no-priority-text c.args.priority c.if-priority-eq1.false c.if-priority-eq2.false) c.put-2.ensures
+pub returns-in_default : goal.returns-in_default
+returns-in_default c = rw (no-priority-text c.args.priority (search rules) (search rules)) c.put-in_default.ensures

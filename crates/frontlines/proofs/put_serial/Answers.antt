@@ -4,4 +4,4 @@ use Rattle.frontlines.proofs.put_serial.Goals as goal
 
 pub returns : goal.returns
 returns c =
-    rw (serial-text c.args.serial) (more c.put-at.ensures c.put_digits.ensures)
+    rw (serial-text c.args.serial) (more c.put-at.ensures (rw c.from.ensures at c.put_digits.ensures))

@@ -1,4 +1,4 @@
-use mathlib.Core.Path.{sym, ◌∙◌}
+use Rattle.std.proofs.Common.{sym}
 use Rattle.frontlines.specs.Heading.{read_aerodrome}
 use Rattle.frontlines.specs.Laws.Letters.{letters-long}
 use Rattle.frontlines.proofs.Groups.{letters-whole}
@@ -7,8 +7,11 @@ use Rattle.frontlines.proofs.read_aerodrome.Goals as goal
 
 pub returns-then-is_letters : goal.returns-then-is_letters
 unfolding read_aerodrome
-returns-then-is_letters c = let m = c.args.line.now in let h = sym c.is_letters.ensures ∙ c.if-is_letters.true in rw (letters-whole 4 m, h, c.four.ensures, array-is 4 m (letters-long 4 m h))
+returns-then-is_letters c =
+    let m = c.args.line.now in
+    let h = sym c.if-is_letters.ensures in
+    rw (letters-whole 4 m, h, c.bytes.ensures, array-is 4 m (letters-long 4 m h))
 
 pub returns-else-is_letters : goal.returns-else-is_letters
 unfolding read_aerodrome
-returns-else-is_letters c = rw (letters-whole 4 c.args.line.now, sym c.is_letters.ensures ∙ c.if-is_letters.false)
+returns-else-is_letters c = rw (letters-whole 4 c.args.line.now, sym c.if-is_letters.ensures)

@@ -13,7 +13,8 @@ use Rattle.text.specs.Laws.Sizes.{size, cons-size, append-size, digits-size, spe
 use Rattle.text.specs.Laws.Lines.{Ends}
 use Rattle.runway.specs.Time.{real_time, real_day}
 use Rattle.frontlines.specs.Letters.{is_letters}
-use Rattle.frontlines.specs.Heading.{region_size, aerodrome_size, Heading, is_serial, read_serial, designator_pieces, read_designator, heading_pieces}
+use Rattle.frontlines.specs.declared.Heading.{Heading}
+use Rattle.frontlines.specs.Heading.{region_size, aerodrome_size, is_serial, read_serial, designator_pieces, read_designator, heading_pieces}
 use Rattle.frontlines.specs.Heading.{make_heading, read_heading, valid_title, valid_heading, serial_pieces, read_serial_line, aerodrome_pieces, read_aerodrome}
 use Rattle.frontlines.specs.Laws.Letters.{letters-long, letters-laws, letter-no-space}
 

@@ -1,21 +1,26 @@
-use mathlib.Core.Path.{◌≡◌}
-use native.Mathlib.Omega.{arith}
-use lib.ListN.{length}
-use Rattle.row.proofs.Thirds.{thirds-are, at_most_one}
-use Rattle.row.specs.Agreement.{disagreements}
-use borrow.Author.Rules.{rules}
+use Rattle.std.specs.Prelude.{ℕ, ◌≡◌, ◌+◌, refl, List, Bool, true, false, cond, not, length, count_by}
+use Rattle.std.proofs.Common.{arith, rules, sym, ◌∙◌}
+use Rattle.std.proofs.lemmas.List.Recursion.{is_count_by}
+use Rattle.std.proofs.lemmas.List.Sums.{count_by-le-length}
+use Rattle.surface.specs.declared.Third.{Third}
+use Rattle.surface.specs.Table1.{agrees}
+use Rattle.row.specs.Agreement.{disagrees, disagreements}
 use Rattle.row.proofs.disagreements.Goals as goal
 
-pub overflow_add-result : goal.overflow_add-result
-overflow_add-result c = omega (arith, at_most_one _ _ c.disagrees-z.ensures, at_most_one _ _ c.disagrees-y.ensures)
+abbrev disallowed : Third → Bool
+disallowed t = not (agrees t)
 
-pub overflow_add-result-2 : goal.overflow_add-result-2
-overflow_add-result-2 c = omega (arith, at_most_one _ _ c.disagrees-z.ensures, at_most_one _ _ c.disagrees-y.ensures, at_most_one _ _ c.disagrees-x.ensures)
+counted : (ts : List Third) → disagreements ts ≡ count_by disallowed ts
+unfolding disagreements disagrees
+counted = is_count_by disagreements disallowed refl (λ t ts. one (agrees t) (disagreements ts))
+  where
+    one : (b : Bool) (n : ℕ) → cond b 0 1 + n ≡ cond (not b) (1 + n) n
+    one true n = omega arith
+    one false n = refl
 
 pub returns : goal.returns
-unfolding disagreements
 returns c =
-    let l : length c.args.r.thirds ≡ 3 = search rules in (
-      rw (thirds-are c.args.r.thirds l) (omega (arith, c.disagrees-z.ensures, c.disagrees-y.ensures, c.disagrees-x.ensures)),
-      omega (arith, at_most_one _ _ c.disagrees-z.ensures, at_most_one _ _ c.disagrees-y.ensures, at_most_one _ _ c.disagrees-x.ensures),
-    )
+    let ts = c.args.r.thirds in
+    let three : length ts ≡ 3 = search rules in
+    let n : c.count.result ≡ count_by disallowed ts = search rules in
+    (n ∙ sym (counted ts), omega (arith, count_by-le-length disallowed ts))

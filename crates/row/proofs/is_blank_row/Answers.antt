@@ -1,29 +1,23 @@
-use mathlib.Core.Path.{◌≡◌}
-use lib.ListN.{length}
-use Rattle.text.specs.Laws.Tests.{tests}
-use Rattle.surface.specs.Third.{is_blank_third}
-use Rattle.row.proofs.Thirds.{three-are}
-use Rattle.row.specs.Row.{is_blank_row}
-use borrow.Author.Rules.{rules}
+use Rattle.std.specs.Prelude.{◌≡◌, refl, List, [], ◌∷◌, length, get_or}
+use Rattle.std.proofs.Common.{arith, rules}
+use Rattle.text.specs.Choice.{◌and◌}
+use Rattle.surface.specs.Third.{blank_third, is_blank_third}
+use Rattle.surface.specs.declared.Third.{Third}
+use Rattle.row.specs.Row.{three_that, is_blank_row}
 use Rattle.row.proofs.is_blank_row.Goals as goal
 
-pub returns-then-r-eq0-4 : goal.returns-then-r-eq0-4
-unfolding is_blank_row
-returns-then-r-eq0-4 c =
-    let l : length c.args.r.thirds ≡ 3 = search rules in rw (three-are is_blank_third c.args.r.thirds l) (search tests)
+thirds-are : (ts : List Third) → length ts ≡ 3 → ts ≡ get_or ts 0 blank_third ∷ get_or ts 1 blank_third ∷ get_or ts 2 blank_third ∷ []
+thirds-are [] l = absurd (omega arith)
+thirds-are (a ∷ []) l = absurd (omega arith)
+thirds-are (a ∷ b ∷ []) l = absurd (omega arith)
+thirds-are (a ∷ b ∷ c ∷ []) l = refl
+thirds-are (a ∷ b ∷ c ∷ d ∷ ts) l = absurd (omega arith)
 
-pub returns-else-r-eq0-4 : goal.returns-else-r-eq0-4
-unfolding is_blank_row
-returns-else-r-eq0-4 c = search tests
-
-pub returns-else-r-eq0-3 : goal.returns-else-r-eq0-3
-unfolding is_blank_row
-returns-else-r-eq0-3 c = search tests
-
-pub returns-else-r-eq0-2 : goal.returns-else-r-eq0-2
-unfolding is_blank_row
-returns-else-r-eq0-2 c = search tests
-
-pub returns-else-r-eq0 : goal.returns-else-r-eq0
-unfolding is_blank_row
-returns-else-r-eq0 c = search tests
+pub returns : goal.returns
+unfolding is_blank_row three_that is_blank_third ◌and◌
+returns c =
+    let ts = c.args.r.thirds in
+    let l : length ts ≡ 3 = search rules in
+    let three = thirds-are ts l in
+    let e = rw (c.blank_row.ensures, three) at c.eq.ensures in
+    rw three (grind arith)

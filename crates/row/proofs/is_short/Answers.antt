@@ -1,22 +1,31 @@
-use mathlib.Core.Path.{◌≡◌}
-use lib.ListN.{length}
-use Rattle.text.specs.Choice.{◌and◌}
-use Rattle.row.proofs.Thirds.{thirds-are}
-use Rattle.row.specs.Row.{is_short}
-use borrow.Author.Rules.{rules}
+use Rattle.std.specs.Prelude.{◌≡◌}
+use Rattle.std.proofs.Common.{arith, rules}
+use Rattle.text.specs.Choice.{◌and◌, all}
+use Rattle.text.specs.Laws.Iter.{all_each}
+use Rattle.surface.specs.Third.{blank_third}
+use Rattle.row.specs.Row.{is_bare, is_six, is_dry, is_short}
 use Rattle.row.proofs.is_short.Goals as goal
 
-pub returns-then-all_six : goal.returns-then-all_six
-unfolding is_short ◌and◌
-returns-then-all_six c =
-    let l : length c.args.r.thirds ≡ 3 = search rules in rw (thirds-are c.args.r.thirds l, ← c.all_bare.ensures, c.if-all_bare.true, ← c.all_six.ensures, c.if-all_six.true)
+pub returns-then-all-2 : goal.returns-then-all-2
+unfolding is_short is_six is_dry ◌and◌
+returns-then-all-2 c =
+    let ts = c.args.r.thirds in
+    let bare : c.all.result ≡ all is_bare ts = all_each is_bare ts blank_third (search rules) in
+    let six : c.all-then-all.result ≡ all is_six ts = all_each is_six ts blank_third (search rules) in
+    grind arith
 
-pub returns-then-all_bare : goal.returns-then-all_bare
-unfolding is_short ◌and◌
-returns-then-all_bare c =
-    let l : length c.args.r.thirds ≡ 3 = search rules in rw (thirds-are c.args.r.thirds l, ← c.all_bare.ensures, c.if-all_bare.true, ← c.all_six.ensures, c.if-all_six.false) c.all_dry.ensures
+pub returns-else-all-2 : goal.returns-else-all-2
+unfolding is_short is_six is_dry ◌and◌
+returns-else-all-2 c =
+    let ts = c.args.r.thirds in
+    let bare : c.all.result ≡ all is_bare ts = all_each is_bare ts blank_third (search rules) in
+    let six : c.all-then-all.result ≡ all is_six ts = all_each is_six ts blank_third (search rules) in
+    let dry : c.all-else-all-2.result ≡ all is_dry ts = all_each is_dry ts blank_third (search rules) in
+    grind arith
 
-pub returns : goal.returns
+pub returns-else-all : goal.returns-else-all
 unfolding is_short ◌and◌
-returns c =
-    let l : length c.args.r.thirds ≡ 3 = search rules in rw (thirds-are c.args.r.thirds l, ← c.all_bare.ensures, c.if-all_bare.false)
+returns-else-all c =
+    let ts = c.args.r.thirds in
+    let bare : c.all.result ≡ all is_bare ts = all_each is_bare ts blank_third (search rules) in
+    grind arith

@@ -1,25 +1,19 @@
-use mathlib.Core.Path.{◌≡◌}
-use lib.ListN.{length}
-use Rattle.text.specs.Laws.Tests.{tests}
-use Rattle.surface.specs.Third.{valid_third}
-use Rattle.row.proofs.Thirds.{three-are}
-use Rattle.row.specs.Row.{valid_row}
-use borrow.Author.Rules.{rules}
+use Rattle.std.specs.Prelude.{◌≡◌, length}
+use Rattle.std.proofs.Common.{arith, rules}
+use Rattle.text.specs.Choice.{◌and◌, all}
+use Rattle.text.specs.Laws.Iter.{all_each}
+use Rattle.surface.specs.Third.{blank_third, valid_third}
+use Rattle.row.specs.Row.{three_that, valid_row}
 use Rattle.row.proofs.valid_row.Goals as goal
 
 pub returns-then-r-le-GREATEST_WIDTH : goal.returns-then-r-le-GREATEST_WIDTH
-unfolding valid_row
+unfolding valid_row three_that ◌and◌
 returns-then-r-le-GREATEST_WIDTH c =
-    let l : length c.args.r.thirds ≡ 3 = search rules in rw (three-are valid_third c.args.r.thirds l) (search tests)
+    let ts = c.args.r.thirds in
+    let three : length ts ≡ 3 = search rules in
+    let valid : c.all.result ≡ all valid_third ts = all_each valid_third ts blank_third (search rules) in
+    grind arith
 
 pub returns-else-r-le-GREATEST_WIDTH : goal.returns-else-r-le-GREATEST_WIDTH
-unfolding valid_row
-returns-else-r-le-GREATEST_WIDTH c = search tests
-
-pub returns-else-valid_runway : goal.returns-else-valid_runway
-unfolding valid_row
-returns-else-valid_runway c = search tests
-
-pub returns-else-real_time : goal.returns-else-real_time
-unfolding valid_row
-returns-else-real_time c = search tests
+unfolding valid_row ◌and◌
+returns-else-r-le-GREATEST_WIDTH c = grind arith

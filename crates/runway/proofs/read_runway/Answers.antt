@@ -1,17 +1,12 @@
-use mathlib.Core.Path.{refl}
-use native.Mathlib.Omega.{arith}
-use lib.ListN.{drop}
-use borrow.Author.Tests.{not-true, not-false}
-use Rattle.text.specs.Laws.Held.{got_of, misfit-of}
+use Rattle.std.proofs.Common.{drop, arith}
 use Rattle.runway.proofs.Steps.{two-low}
-use borrow.Author.Rules.{rules}
 use Rattle.runway.proofs.read_runway.Goals as goal
 
-pub returns-then-not-n : goal.returns-then-not-n
-returns-then-not-n c = record { within = search rules; says = rw (misfit-of c.digits-n.ensures (not-true _ c.if-not-n.true)); blank = refl }
+pub returns-in_err-n : goal.returns-in_err-n
+returns-in_err-n c = rw c.from_residual.ensures (record { within = omega arith; says = rw c.in_err-n.ensures.says })
 
 pub overflow_cast-result : goal.overflow_cast-result
-overflow_cast-result c = omega (arith, two-low (drop c.args.i c.args.s.now) (got_of c.digits-n.ensures (not-false _ c.if-not-n.false)))
+overflow_cast-result c = omega (arith, two-low (drop c.args.i c.args.s.now) c.in_ok-n.ensures.says)
 
 pub returns : goal.returns
-returns c = record { within = c.side_at-d.ensures.within; says = rw (got_of c.digits-n.ensures (not-false _ c.if-not-n.false), c.side_at-d.ensures.says); blank = refl }
+returns c = record { within = c.side_at-d.ensures.within; says = rw (c.in_ok-n.ensures.says, c.side_at-d.ensures.says) }

@@ -1,17 +1,17 @@
 -- A runway's text is read as that runway and as no other.
-use Rattle.std.specs.Prelude.{ℕ, zero, suc, ◌^◌, ◌<◌, ◌≤◌, ◌≡◌, refl, List, [], ◌∷◌, cond, Bool, true, false, ◌||◌, eqb, length}
+use Rattle.std.specs.Prelude.{ℕ, zero, suc, ◌^◌, ◌<◌, ◌≤◌, ◌≡◌, refl, List, [], ◌∷◌, cond, Bool, true, false, ◌||◌, eqb, Option, length}
 use Rattle.std.proofs.Common.{lit≤, eqb-true, arith}
 use Rattle.text.specs.Choice.{head_is, ◌and◌}
 use Rattle.text.specs.Piece.{byte, spell}
 use Rattle.text.specs.Read.{Got, read_as, maybe_byte}
 use Rattle.text.specs.Numbers.{is_digit}
 use Rattle.text.specs.Laws.Base.{Laws, Head, Any, inner}
-use Rattle.text.specs.Laws.Held.{Told, told-one}
+use Rattle.text.specs.Laws.Held.{told-one}
 use Rattle.text.specs.Laws.Combine.{seq-laws, as-laws, relay, maybe-laws}
 use Rattle.text.specs.Laws.Numbers.{digits-laws}
 use Rattle.text.specs.Laws.Sizes.{size, append-size, digits-size, spell-size, name-size}
 use Rattle.runway.specs.declared.RunwayFound.{RunwayFound}
-use Rattle.runway.specs.Code.Held.{HeldRunway, no_runway}
+use Rattle.runway.specs.Code.Held.{HeldRunway}
 use Rattle.runway.specs.Runway.{side_name, is_side, side_of, runway_pieces, read_runway}
 
 abbrev side_byte : ℕ → ℕ
@@ -69,10 +69,6 @@ pub runway-size : (n s : ℕ) → size (runway_pieces n s) ≤ 3
 runway-size n s = let h = side-size s in rw (append-size, digits-size, spell-size) (omega arith)
 
 -- the promise of reading a runway leaves no choice
-pub runway-one : {m : List ℕ} {g : Got (ℕ × ℕ)} {r s : RunwayFound} → HeldRunway m g r → HeldRunway m g s → r ≡ s
-runway-one {m} {g} p q =
-    told-one (λ f. f.fits) (λ f. (f.number, f.side)) (λ f. f.next) no_runway m g
-    (λ a b x v n. λ i. record { fits = x i; number = (v i).0; side = (v i).1; next = n i }) (tells p) (tells q)
-  where
-    tells : {t : RunwayFound} → HeldRunway m g t → Told (λ f. f.fits) (λ f. (f.number, f.side)) (λ f. f.next) no_runway m g t
-    tells h = record { within = h.within; says = h.says; blanks = h.blank }
+pub runway-one : {m : List ℕ} {g : Got (ℕ × ℕ)} {r s : Option RunwayFound} → HeldRunway m g r → HeldRunway m g s → r ≡ s
+runway-one p q =
+    told-one (λ f. (f.number, f.side)) (λ f. f.next) (λ a b v n. λ i. record { number = (v i).0; side = (v i).1; next = n i }) p q

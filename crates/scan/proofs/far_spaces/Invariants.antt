@@ -9,8 +9,8 @@ invariant-loop-j l = (l.j ≤ length l.s) × (past is_space (drop l.j l.s) ≡ p
 abbrev pub decreases-loop-j : goal.decreases-loop-j
 decreases-loop-j l = length l.s - l.j
 
-abbrev pub invariant-loop-j-2 : goal.invariant-loop-j-2
-invariant-loop-j-2 l = (l.j ≤ length l.s) × (past is_space (drop l.j l.s) ≡ past is_space (drop l.i l.s))
+abbrev pub invariant-loop-bytes : goal.invariant-loop-bytes
+invariant-loop-bytes l = (l.j ≤ length l.s) × (past is_space (drop l.j l.s) ≡ past is_space (drop l.i l.s))
 
-abbrev pub decreases-loop-j-2 : goal.decreases-loop-j-2
-decreases-loop-j-2 l = length l.s - l.j
+abbrev pub decreases-loop-bytes : goal.decreases-loop-bytes
+decreases-loop-bytes l = length l.s - l.j

@@ -1,11 +1,10 @@
-use Rattle.text.specs.Laws.Tests.{tests}
 use Rattle.text.specs.Names.{in_class}
 use Rattle.scan.proofs.in_class.Goals as goal
 
-pub returns-then-class-eq-LETTERS : goal.returns-then-class-eq-LETTERS
+pub returns-in-Letters : goal.returns-in-Letters
 unfolding in_class
-returns-then-class-eq-LETTERS c = simp (← c.is_letter.ensures) (search tests)
+returns-in-Letters c = rw c.in-Letters.is c.is_letter.ensures
 
-pub returns : goal.returns
+pub returns-in-Names : goal.returns-in-Names
 unfolding in_class
-returns c = simp (← c.is_name.ensures) (search tests)
+returns-in-Names c = rw c.in-Names.is c.is_name.ensures

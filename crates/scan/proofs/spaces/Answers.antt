@@ -1,6 +1,7 @@
-use Rattle.std.proofs.Common.{◌+◌, drop, sym, ◌∙◌, arith, drop_of_length-le}
-use lib.Seq.{drop-length}
-use Rattle.scan.proofs.Eights.{spaces-end, spaces-on}
+use Rattle.std.proofs.Common.{◌+◌, drop, length, sym, ap, ◌∙◌, arith, drop_of_length-le}
+use Rattle.std.proofs.Math.Seq.{drop-length}
+use Rattle.text.specs.Names.{run, is_space}
+use Rattle.scan.proofs.Eights.{spaces-end, spaces-on, chunk-within, chunk-is}
 use Rattle.scan.proofs.Steps.{skip-end, skip-space, skip-other, skip-past}
 use Rattle.scan.proofs.spaces.Goals as goal
 
@@ -14,23 +15,25 @@ returns-then-s-i-ne-SPACE c =
     let a = c.args in
     record { within = omega (arith, c.if-s-i.false); left = sym (skip-other a.s.now a.i c.if-s-i.false c.if-s-i-ne-SPACE.true) }
 
-pub returns-then-s-j-lt8 : goal.returns-then-s-j-lt8
-returns-then-s-j-lt8 c =
+pub returns-in_default : goal.returns-in_default
+returns-in_default c =
     let a = c.args in
     let r = c.last_spaces.ensures in
     record { within = r.within; left = r.left ∙ sym (skip-space a.s.now a.i c.if-s-i.false c.if-s-i-ne-SPACE.false) }
 
-pub overflow_add-result : goal.overflow_add-result
-overflow_add-result c = let a = c.args in omega (arith, (spaces-end a.s.now (a.i + 1) (omega (arith, c.if-s-j-lt8.false, c.if-s-i.false)) c.leading_spaces-n.ensures c.if-n-lt8.true).within)
-
 pub returns-then-n-lt8 : goal.returns-then-n-lt8
 returns-then-n-lt8 c =
     let a = c.args in
-    let r = spaces-end a.s.now (a.i + 1) (omega (arith, c.if-s-j-lt8.false, c.if-s-i.false)) c.leading_spaces-n.ensures c.if-n-lt8.true in
-    record { within = r.within; left = r.left ∙ sym (skip-past (drop (a.i + 1) a.s.now)) ∙ sym (skip-space a.s.now a.i c.if-s-i.false c.if-s-i-ne-SPACE.false) }
+    let m = a.s.now in
+    let h = c.in-Some.ensures.cases in
+    let r = spaces-end m (a.i + 1) (chunk-within m (a.i + 1) _ h) (c.leading_spaces-n.ensures ∙ ap (λ b. length (run is_space b)) (chunk-is m (a.i + 1) _ h)) c.if-n-lt8.true in
+    record { within = r.within; left = r.left ∙ sym (skip-past (drop (a.i + 1) m)) ∙ sym (skip-space m a.i c.if-s-i.false c.if-s-i-ne-SPACE.false) }
 
-pub returns : goal.returns
-returns c =
+pub returns-else-n-lt8 : goal.returns-else-n-lt8
+returns-else-n-lt8 c =
     let a = c.args in
+    let m = a.s.now in
+    let h = c.in-Some.ensures.cases in
     let r = c.far_spaces.ensures in
-    record { within = r.within; left = r.left ∙ skip-past (drop (a.i + 1 + 8) a.s.now) ∙ spaces-on a.s.now (a.i + 1) (omega (arith, c.if-s-j-lt8.false, c.if-s-i.false)) c.leading_spaces-n.ensures c.if-n-lt8.false ∙ sym (skip-past (drop (a.i + 1) a.s.now)) ∙ sym (skip-space a.s.now a.i c.if-s-i.false c.if-s-i-ne-SPACE.false) }
+    let on = spaces-on m (a.i + 1) (chunk-within m (a.i + 1) _ h) (c.leading_spaces-n.ensures ∙ ap (λ b. length (run is_space b)) (chunk-is m (a.i + 1) _ h)) c.if-n-lt8.false in
+    record { within = r.within; left = r.left ∙ skip-past (drop (a.i + 1 + 8) m) ∙ on ∙ sym (skip-past (drop (a.i + 1) m)) ∙ sym (skip-space m a.i c.if-s-i.false c.if-s-i-ne-SPACE.false) }

@@ -1,10 +1,7 @@
 -- The invariant: what is left of the text, read at j, gives what the text gave at i, and there are bytes enough for it.
-use Rattle.std.proofs.Common.{◌≡◌, ◌+◌, ◌-◌, ◌≤◌, length, drop}
+use Rattle.std.proofs.Common.{◌≡◌, ◌+◌, ◌≤◌, length, drop}
 use Rattle.text.specs.Read.{read_text}
 use Rattle.scan.proofs.word.Given as goal
 
 abbrev pub invariant-loop-k : goal.invariant-loop-k
-invariant-loop-k l = (l.j ≤ length l.s) × (l.k ≤ length l.t) × (length l.t + l.j ≤ length l.s + l.k) × (read_text (drop l.k l.t) (drop l.j l.s) ≡ read_text l.t (drop l.i l.s))
-
-abbrev pub decreases-loop-k : goal.decreases-loop-k
-decreases-loop-k l = length l.t - l.k
+invariant-loop-k l = (l.j ≤ length l.s) × (length l.t + l.j ≤ length l.s + l.k) × (read_text (drop l.k l.t) (drop l.j l.s) ≡ read_text l.t (drop l.i l.s))

@@ -1,11 +1,11 @@
-use Rattle.text.specs.Laws.Tests.{tests}
+use native.Mathlib.Omega.{arith}
 use Rattle.surface.specs.Table1.{agrees}
 use Rattle.surface.proofs.agrees.Goals as goal
 
 pub returns-then-t-eq-NR : goal.returns-then-t-eq-NR
 unfolding agrees
-returns-then-t-eq-NR c = search tests
+returns-then-t-eq-NR c = grind arith
 
-pub returns : goal.returns
+pub returns-else-t-eq-NR : goal.returns-else-t-eq-NR
 unfolding agrees
-returns c = search tests
+returns-else-t-eq-NR c = grind arith

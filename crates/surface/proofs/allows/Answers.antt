@@ -1,15 +1,12 @@
-use Rattle.text.specs.Laws.Tests.{tests}
+use native.Mathlib.Omega.{arith}
+use Rattle.text.specs.Choice.{◌and◌}
 use Rattle.surface.specs.Table1.{allows}
 use Rattle.surface.proofs.allows.Goals as goal
 
-pub returns-then-e-t : goal.returns-then-e-t
-unfolding allows
-returns-then-e-t c = simp (← c.is_named.ensures) (search tests)
+pub returns-then-code-t : goal.returns-then-code-t
+unfolding allows ◌and◌
+returns-then-code-t c = grind arith
 
-pub returns-then-is_named : goal.returns-then-is_named
-unfolding allows
-returns-then-is_named c = simp (← c.is_named.ensures, ← c.can_hold.ensures) (search tests)
-
-pub returns : goal.returns
-unfolding allows
-returns c = simp (← c.is_named.ensures) (search tests)
+pub returns-else-code-t : goal.returns-else-code-t
+unfolding allows ◌and◌
+returns-else-code-t c = grind arith

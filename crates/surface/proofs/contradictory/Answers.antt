@@ -1,19 +1,11 @@
-use Rattle.text.specs.Laws.Tests.{tests}
+use native.Mathlib.Omega.{arith}
 use Rattle.surface.specs.Assess.{contradictory}
 use Rattle.surface.proofs.contradictory.Goals as goal
 
-pub returns-then-covered_dry : goal.returns-then-covered_dry
-unfolding contradictory
-returns-then-covered_dry c = search tests
-
-pub returns-then-deep_wet : goal.returns-then-deep_wet
-unfolding contradictory
-returns-then-deep_wet c = search tests
-
 pub returns-then-deep_other : goal.returns-then-deep_other
 unfolding contradictory
-returns-then-deep_other c = search tests
+returns-then-deep_other c = grind arith
 
-pub returns : goal.returns
+pub returns-else-deep_other : goal.returns-else-deep_other
 unfolding contradictory
-returns c = search tests
+returns-else-deep_other c = grind arith

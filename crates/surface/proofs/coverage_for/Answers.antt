@@ -1,19 +1,19 @@
-use Rattle.text.specs.Laws.Tests.{tests}
+use native.Mathlib.Omega.{arith}
 use Rattle.surface.specs.Assess.{coverage_for}
 use Rattle.surface.proofs.coverage_for.Goals as goal
 
-pub returns-then-cover-le25 : goal.returns-then-cover-le25
+pub returns-in-0-to-25 : goal.returns-in-0-to-25
 unfolding coverage_for
-returns-then-cover-le25 c = search tests
+returns-in-0-to-25 c = grind arith
 
-pub returns-then-cover-le50 : goal.returns-then-cover-le50
+pub returns-in-26-to-50 : goal.returns-in-26-to-50
 unfolding coverage_for
-returns-then-cover-le50 c = search tests
+returns-in-26-to-50 c = grind arith
 
-pub returns-then-cover-le75 : goal.returns-then-cover-le75
+pub returns-in-51-to-75 : goal.returns-in-51-to-75
 unfolding coverage_for
-returns-then-cover-le75 c = search tests
+returns-in-51-to-75 c = grind arith
 
-pub returns : goal.returns
+pub returns-in_default : goal.returns-in_default
 unfolding coverage_for
-returns c = search tests
+returns-in_default c = grind arith

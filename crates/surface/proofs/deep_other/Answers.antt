@@ -1,15 +1,11 @@
-use Rattle.text.specs.Laws.Tests.{tests}
+use native.Mathlib.Omega.{arith}
 use Rattle.surface.specs.Assess.{deep_other}
 use Rattle.surface.proofs.deep_other.Goals as goal
 
-pub returns-then-o : goal.returns-then-o
+pub returns-then-not-is_deep : goal.returns-then-not-is_deep
 unfolding deep_other
-returns-then-o c = search tests
+returns-then-not-is_deep c = grind arith
 
-pub returns-then-is_deep : goal.returns-then-is_deep
+pub returns-else-not-is_deep : goal.returns-else-not-is_deep
 unfolding deep_other
-returns-then-is_deep c = search tests
-
-pub returns : goal.returns
-unfolding deep_other
-returns c = search tests
+returns-else-not-is_deep c = grind arith

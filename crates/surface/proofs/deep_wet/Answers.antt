@@ -1,11 +1,12 @@
-use Rattle.text.specs.Laws.Tests.{tests}
+use native.Mathlib.Omega.{arith}
+use Rattle.text.specs.Choice.{◌and◌}
 use Rattle.surface.specs.Assess.{deep_wet}
 use Rattle.surface.proofs.deep_wet.Goals as goal
 
-pub returns-then-o : goal.returns-then-o
-unfolding deep_wet
-returns-then-o c = simp (← c.is_shallow.ensures) (search tests)
+pub returns-then-s-eq-WET : goal.returns-then-s-eq-WET
+unfolding deep_wet ◌and◌
+returns-then-s-eq-WET c = grind arith
 
-pub returns : goal.returns
-unfolding deep_wet
-returns c = search tests
+pub returns-else-s-eq-WET : goal.returns-else-s-eq-WET
+unfolding deep_wet ◌and◌
+returns-else-s-eq-WET c = grind arith

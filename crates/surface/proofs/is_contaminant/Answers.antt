@@ -1,11 +1,8 @@
-use Rattle.text.specs.Laws.Tests.{tests}
+use native.Mathlib.Omega.{arith}
+use Rattle.text.specs.Choice.{◌and◌}
 use Rattle.surface.specs.Descriptions.{is_contaminant}
 use Rattle.surface.proofs.is_contaminant.Goals as goal
 
-pub returns-then-description-lt-COMPACTED_SNOW : goal.returns-then-description-lt-COMPACTED_SNOW
-unfolding is_contaminant
-returns-then-description-lt-COMPACTED_SNOW c = search tests
-
 pub returns : goal.returns
-unfolding is_contaminant
-returns c = search tests
+unfolding is_contaminant ◌and◌
+returns c = grind arith

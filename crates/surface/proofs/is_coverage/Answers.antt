@@ -1,19 +1,11 @@
-use Rattle.text.specs.Laws.Tests.{tests}
+use native.Mathlib.Omega.{arith}
 use Rattle.surface.specs.Third.{is_coverage}
 use Rattle.surface.proofs.is_coverage.Goals as goal
 
-pub returns-then-coverage-eq25 : goal.returns-then-coverage-eq25
+pub returns-in-25 : goal.returns-in-25
 unfolding is_coverage
-returns-then-coverage-eq25 c = search tests
+returns-in-25 c = grind arith
 
-pub returns-then-coverage-eq50 : goal.returns-then-coverage-eq50
+pub returns-in_default : goal.returns-in_default
 unfolding is_coverage
-returns-then-coverage-eq50 c = search tests
-
-pub returns-then-coverage-eq75 : goal.returns-then-coverage-eq75
-unfolding is_coverage
-returns-then-coverage-eq75 c = search tests
-
-pub returns : goal.returns
-unfolding is_coverage
-returns c = search tests
+returns-in_default c = grind arith

@@ -1,11 +1,12 @@
-use Rattle.text.specs.Laws.Tests.{tests}
+use native.Mathlib.Omega.{arith}
+use Rattle.text.specs.Choice.{◌and◌}
 use Rattle.surface.specs.Table1.{is_for}
 use Rattle.surface.proofs.is_for.Goals as goal
 
 pub returns-then-is_named : goal.returns-then-is_named
-unfolding is_for
-returns-then-is_named c = simp (← c.is_named.ensures, ← c.holds.ensures) (search tests)
+unfolding is_for ◌and◌
+returns-then-is_named c = grind arith
 
-pub returns : goal.returns
-unfolding is_for
-returns c = simp (← c.is_named.ensures) (search tests)
+pub returns-else-is_named : goal.returns-else-is_named
+unfolding is_for ◌and◌
+returns-else-is_named c = grind arith

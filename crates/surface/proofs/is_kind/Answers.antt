@@ -1,11 +1,8 @@
-use Rattle.text.specs.Laws.Tests.{tests}
+use native.Mathlib.Omega.{arith}
+use Rattle.text.specs.Choice.{◌and◌}
 use Rattle.surface.specs.Assess.{is_kind}
 use Rattle.surface.proofs.is_kind.Goals as goal
 
-pub returns-then-kind : goal.returns-then-kind
-unfolding is_kind
-returns-then-kind c = search tests
-
 pub returns : goal.returns
-unfolding is_kind
-returns c = search tests
+unfolding is_kind ◌and◌
+returns c = grind arith

@@ -1,22 +1,9 @@
-use mathlib.Core.Path.{ap}
-use lib.Dec.{leb}
-use Rattle.text.specs.Laws.Tests.{and-on, and-off}
-use Rattle.surface.specs.declared.Contaminant.{Contaminant}
+use Rattle.std.proofs.Common.{rules, tests}
 use Rattle.surface.specs.Third.{least_depth, is_reported}
-use Rattle.surface.specs.Laws.Table3.{has-line, has-no-line}
+use Rattle.surface.specs.Laws.Table3.{by-figure}
 use Rattle.surface.proofs.is_reported.Goals as goal
-
-pub returns-then-line-eq0 : goal.returns-then-line-eq0
-unfolding is_reported
-returns-then-line-eq0 c =
-    let d = c.args.description in
-    let line = c.line_of-line in
-    and-off _ _ (has-no-line d line.result line.ensures c.if-line-eq0.true)
 
 pub returns : goal.returns
 unfolding is_reported least_depth
 returns c =
-    let args = c.args in
-    let line = c.line_of-line in
-    and-on _ _ _ (has-line args.description line.result line.ensures c.if-line-eq0.false)
-    (ap (λ (l : Contaminant). leb l.1 args.depth) line.ensures)
+    by-figure (λ l. l.1) c.args.description c.args.depth _ _ c.line_of.ensures c.is_some_and.ensures (λ l q. search (rules, tests))

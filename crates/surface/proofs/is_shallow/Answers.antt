@@ -1,7 +1,7 @@
-use Rattle.text.specs.Laws.Tests.{tests}
+use native.Mathlib.Omega.{arith}
 use Rattle.surface.specs.Assess.{is_shallow}
 use Rattle.surface.proofs.is_shallow.Goals as goal
 
 pub returns : goal.returns
 unfolding is_shallow
-returns c = search tests
+returns c = grind arith

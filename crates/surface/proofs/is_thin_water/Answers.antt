@@ -1,11 +1,12 @@
-use Rattle.text.specs.Laws.Tests.{tests}
+use native.Mathlib.Omega.{arith}
+use Rattle.text.specs.Choice.{◌and◌}
 use Rattle.surface.specs.Assess.{is_thin_water}
 use Rattle.surface.proofs.is_thin_water.Goals as goal
 
-pub returns-then-o : goal.returns-then-o
-unfolding is_thin_water
-returns-then-o c = simp (← c.is_shallow.ensures) (search tests)
+pub returns-then-s-eq-STANDING_WATER : goal.returns-then-s-eq-STANDING_WATER
+unfolding is_thin_water ◌and◌
+returns-then-s-eq-STANDING_WATER c = grind arith
 
-pub returns : goal.returns
-unfolding is_thin_water
-returns c = search tests
+pub returns-else-s-eq-STANDING_WATER : goal.returns-else-s-eq-STANDING_WATER
+unfolding is_thin_water ◌and◌
+returns-else-s-eq-STANDING_WATER c = grind arith

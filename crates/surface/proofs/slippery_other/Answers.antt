@@ -1,11 +1,11 @@
-use Rattle.text.specs.Laws.Tests.{tests}
+use native.Mathlib.Omega.{arith}
 use Rattle.surface.specs.Assess.{slippery_other}
 use Rattle.surface.proofs.slippery_other.Goals as goal
 
-pub returns-then-o : goal.returns-then-o
+pub returns-then-s-ne-WET : goal.returns-then-s-ne-WET
 unfolding slippery_other
-returns-then-o c = search tests
+returns-then-s-ne-WET c = grind arith
 
-pub returns : goal.returns
+pub returns-else-s-ne-WET : goal.returns-else-s-ne-WET
 unfolding slippery_other
-returns c = search tests
+returns-else-s-ne-WET c = grind arith

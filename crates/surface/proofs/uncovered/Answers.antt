@@ -1,11 +1,11 @@
-use Rattle.text.specs.Laws.Tests.{tests}
+use native.Mathlib.Omega.{arith}
 use Rattle.surface.specs.Assess.{uncovered}
 use Rattle.surface.proofs.uncovered.Goals as goal
 
-pub returns-then-kind : goal.returns-then-kind
+pub returns-then-kind-eq-DRY : goal.returns-then-kind-eq-DRY
 unfolding uncovered
-returns-then-kind c = search tests
+returns-then-kind-eq-DRY c = grind arith
 
-pub returns : goal.returns
+pub returns-else-kind-eq-DRY : goal.returns-else-kind-eq-DRY
 unfolding uncovered
-returns c = search tests
+returns-else-kind-eq-DRY c = grind arith

@@ -1,16 +1,16 @@
-use borrow.Author.Tests.{ne_eqb}
-use Rattle.text.specs.Laws.Tests.{tests}
+use native.Mathlib.Omega.{arith}
+use Rattle.text.specs.Choice.{◌and◌}
 use Rattle.surface.specs.Third.{valid_depth}
 use Rattle.surface.proofs.valid_depth.Goals as goal
 
 pub returns-then-t-eq0 : goal.returns-then-t-eq0
-unfolding valid_depth
-returns-then-t-eq0 c = search tests
+unfolding valid_depth ◌and◌
+returns-then-t-eq0 c = grind arith
 
 pub returns-then-is_reported : goal.returns-then-is_reported
-unfolding valid_depth
-returns-then-is_reported c = simp (← c.is_reported.ensures, ne_eqb, c.if-is_reported.true, c.if-t-eq0.false) (search tests)
+unfolding valid_depth ◌and◌
+returns-then-is_reported c = grind arith
 
-pub returns : goal.returns
-unfolding valid_depth
-returns c = simp (← c.is_reported.ensures) (search tests)
+pub returns-else-is_reported : goal.returns-else-is_reported
+unfolding valid_depth ◌and◌
+returns-else-is_reported c = grind arith

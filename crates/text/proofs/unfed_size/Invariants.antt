@@ -1,4 +1,4 @@
--- The invariant of both loops: past the run of what is left stands what stands past the whole run.
+-- The invariant of the loop over blocks: past the run of what is left stands what stands past the whole run.
 use Prim.Native.Nat.{◌-◌, ◌≤◌}
 use mathlib.Core.Path.{◌≡◌}
 use lib.ListN.{length, drop}
@@ -11,9 +11,3 @@ invariant-loop-i l = (l.i ≤ length l.m) × (past is_unfed (drop l.i l.m) ≡ p
 
 abbrev pub decreases-loop-i : goal.decreases-loop-i
 decreases-loop-i l = length l.m - l.i
-
-abbrev pub invariant-loop-i-2 : goal.invariant-loop-i-2
-invariant-loop-i-2 l = (l.i ≤ length l.m) × (past is_unfed (drop l.i l.m) ≡ past is_unfed l.m)
-
-abbrev pub decreases-loop-i-2 : goal.decreases-loop-i-2
-decreases-loop-i-2 l = length l.m - l.i

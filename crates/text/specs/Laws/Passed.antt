@@ -2,7 +2,7 @@
 use Prim.Native.Nat.{ℕ, zero, suc, ◌+◌, ◌-◌, ◌<◌, ◌≤◌}
 use Rattle.std.specs.Prelude.{◌≡◌, Bool, true, false, length, drop, get_or, take}
 use Rattle.std.proofs.Math.Path.{refl}
-use Rattle.std.proofs.Common.{sym, ◌∙◌, ap, add-one, length-drop, drop-drop, get_or-drop, take-suc, le-leb, leb-true}
+use Rattle.std.proofs.Common.{sym, ◌∙◌, ap, add-one, length-drop, drop-drop, take-suc, le-leb, leb-true}
 use mathlib.Core.List.{List, [], ◌∷◌}
 use native.Mathlib.Omega.{arith}
 use Rattle.std.proofs.Math.ListN.{drop_of_length-le}
@@ -50,11 +50,8 @@ module _ (p : ℕ → Bool) (m : List ℕ) (j : ℕ) where
         go n e = rw (e, add-one, drop-cons m j 0 h, q) (again (read_count p n (drop (suc j) m)))
 
 -- one byte more of a block
-pub block_more : (p : ℕ → Bool) (m : List ℕ) (i k : ℕ) → i + k < length m
-    → all p (take (k + 1) (drop i m)) ≡ (all p (take k (drop i m)) and p (get_or m (i + k) 0))
-block_more p m i k h =
-    let l : k < length (drop i m) = omega (arith, length-drop i m) in
-    rw (add-one, take-suc (drop i m) k 0 l, get_or-drop i m k 0) (all-last p (take k (drop i m)) (get_or m (i + k) 0))
+pub all_more : (p : ℕ → Bool) (m : List ℕ) (k : ℕ) → k < length m → all p (take (k + 1) m) ≡ (all p (take k m) and p (get_or m k 0))
+all_more p m k h = rw (add-one, take-suc m k 0 h) (all-last p (take k m) (get_or m k 0))
 
 -- a block that does not fit in, and one that does
 pub block_out : (p : ℕ → Bool) (n : ℕ) (m : List ℕ) → length m < n → starts_with n p m ≡ false
@@ -81,3 +78,29 @@ pub past-block : (p : ℕ → Bool) (s : List ℕ) (j n : ℕ) {k : List ℕ} �
 past-block p s j n h e b =
     let w = block-there p n (drop j s) b in
     (omega (arith, w.0, length-drop j s), ap (past p) (sym (drop-drop n j s)) ∙ sym (block-past p n (drop j s) w.0 w.1) ∙ e)
+
+-- so many bytes of a class stand where there are so many and all are of it
+module _ (p : ℕ → Bool) where
+  again : (x : ℕ) (g : Got (List ℕ)) → is_got (and_then {A = ℕ × List ℕ} (and_then g (λ b r. got (x, b) r)) (λ q r. got (q.0 ∷ q.1) r)) ≡ is_got g
+  again x misfit = refl
+  again x (got b r) = refl
+
+  pub count-in : (n : ℕ) (m : List ℕ) → n ≤ length m → is_got (read_count p n m) ≡ all p (take n m)
+  unfolding read_count ◌and◌
+  count-in zero m h = refl
+  count-in (suc n) [] h = absurd (omega arith)
+  count-in (suc n) (x ∷ m) h = go (p x) refl (count-in n m (omega arith))
+    where
+      go : (t : Bool) → p x ≡ t → is_got (read_count p n m) ≡ all p (take n m) → is_got (read_count p (suc n) (x ∷ m)) ≡ (p x and all p (take n m))
+      go true e i = rw e (again x (read_count p n m) ∙ i)
+      go false e i = rw e
+
+  pub count-out : (n : ℕ) (m : List ℕ) → length m < n → is_got (read_count p n m) ≡ false
+  unfolding read_count
+  count-out zero m h = absurd (omega arith)
+  count-out (suc n) [] h = refl
+  count-out (suc n) (x ∷ m) h = go (p x) refl (count-out n m (omega arith))
+    where
+      go : (t : Bool) → p x ≡ t → is_got (read_count p n m) ≡ false → is_got (read_count p (suc n) (x ∷ m)) ≡ false
+      go true e i = rw e (again x (read_count p n m) ∙ i)
+      go false e i = rw e

@@ -1,12 +1,13 @@
--- The descriptions that begin alike, in their order: what the code tries where their first byte stands.
-use Rattle.std.specs.Prelude.{ℕ, List, [], ◌∷◌}
-use Rattle.surface.specs.Descriptions.{dry_snow, dry_snow_on_compacted_snow, dry_snow_on_ice, water_on_compacted_snow}
-use Rattle.surface.specs.Descriptions.{wet, wet_ice, wet_snow, wet_snow_on_compacted_snow, wet_snow_on_ice, dry}
+-- The descriptions that begin alike: what the code tries where their first byte stands.
+use Rattle.std.specs.Prelude.{ℕ, List, [], ◌∷◌, Bool, true, eqb, filter}
+use Rattle.surface.specs.Descriptions.{description_name}
+use Rattle.thirds.specs.Groups.{description_order}
 
--- by DRY
-abbrev pub dries : List ℕ
-dries = dry_snow_on_compacted_snow ∷ dry_snow_on_ice ∷ dry_snow ∷ dry ∷ []
+-- a text can stand where the byte b does
+abbrev pub can : ℕ → List ℕ → Bool
+can b [] = true
+can b (c ∷ cs) = eqb c b
 
--- by WATER or WET
-abbrev pub wets : List ℕ
-wets = water_on_compacted_snow ∷ wet_snow_on_compacted_snow ∷ wet_snow_on_ice ∷ wet_snow ∷ wet_ice ∷ wet ∷ []
+-- the descriptions that can, in the order in which they are tried
+unfoldable pub beginning : ℕ → List ℕ
+beginning b = filter (λ d. can b (description_name d)) description_order

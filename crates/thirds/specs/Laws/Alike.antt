@@ -8,8 +8,9 @@ use Rattle.text.specs.Names.{is_letter, read_name}
 use Rattle.text.specs.Laws.Base.{Head, and_l, and_r, then-got}
 use Rattle.text.specs.Laws.Combine.{if-laws}
 use Rattle.text.specs.Laws.Numbers.{digits-laws, number-laws}
-use Rattle.thirds.specs.Groups.{coverages, descriptions, read_measure, read_coverage, read_description, read_third, read_group}
+use Rattle.thirds.specs.Groups.{read_measure, read_coverage, read_description, read_third, read_group}
 use Rattle.thirds.specs.Laws.Groups.{description-head}
+use Rattle.thirds.specs.declared.Group.TheVariants.{Coverages, Descriptions}
 
 -- two readers that leave the same rest wherever both fit
 pub record Alike {A B : Type 0} (f : List ℕ → Got A) (g : List ℕ → Got B) : Type 0 where
@@ -60,7 +61,7 @@ number-head x {m} {r} h t = go (leb 100 x) refl t
     go true e t = (digits-laws 2).starts x h t tt
     go false e t = (digits-laws 1).starts x (leb-false 100 x e) t tt
 
-coverage-description : Alike (read_third coverages) (read_third descriptions)
+coverage-description : Alike (read_third Coverages) (read_third Descriptions)
 unfolding read_third read_coverage read_measure read_description read_name
 coverage-description = record { same = λ {m} p q. go m (read_text (bytes "NR") m) refl p q }
   where
@@ -71,7 +72,7 @@ coverage-description = record { same = λ {m} p q. go m (read_text (bytes "NR") 
         digit-or-letter m (number-head _ x.0.0.0 x.1) (description-head m q)
     go m (got u k) e p q = cc (rw e at p, rw e at q)
 
-pub coverages-descriptions : Alike (read_group coverages) (read_group descriptions)
+pub coverages-descriptions : Alike (read_group Coverages) (read_group Descriptions)
 unfolding read_group
 coverages-descriptions =
     let C = coverage-description in

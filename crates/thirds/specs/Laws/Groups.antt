@@ -15,12 +15,14 @@ use Rattle.text.specs.Laws.Numbers.{digits-laws, number-laws}
 use Rattle.text.specs.Laws.Names.{good, word_on, word_next, on-misfit, no_word, all-at}
 use Rattle.text.proofs.Laws.Names.{name-laws, spell-head}
 use Rattle.surface.specs.Descriptions.{dry, description_name}
-use Rattle.thirds.specs.Groups.{codes, coverages, depths, descriptions, measure_pieces, read_measure, read_coverage, description_pieces, description_order}
+use Rattle.thirds.specs.Groups.{measure_pieces, read_measure, read_coverage, description_pieces, description_order}
 use Rattle.thirds.specs.Groups.{read_description, third_pieces, read_third, highest, Three, joined, read_three, group_pieces, read_group}
+use Rattle.thirds.specs.declared.Group.{Group}
+use Rattle.thirds.specs.declared.Group.TheVariants.{Codes, Coverages, Depths, Descriptions}
 
 -- each of three numbers can be shown in a group
-abbrev pub Shown : ℕ → Three → Type 0
-Shown kind t = (t.0 ≤ highest kind) × (t.1 ≤ highest kind) × (t.2 ≤ highest kind)
+abbrev pub Shown : Group → Three → Type 0
+Shown g t = (t.0 ≤ highest g) × (t.1 ≤ highest g) × (t.2 ≤ highest g)
 
 slash-inline : inline (words "/") ≡ true
 unfolding inline spell ◌and◌
@@ -35,19 +37,19 @@ three-laws {v} F meet =
     (λ p h. ((h.0, h.1.0, h.1.1), refl))
     (λ t h. ((h.0, (h.1, h.2)), refl))
 
--- a gap, and then the thirds of a kind
-group_laws : (kind : ℕ) {s f : List ℕ → Type 0} → Laws (λ x. x ≤ highest kind) (third_pieces kind) (read_third kind) s f
-    → ((m : List ℕ) → Head (eqb 47) m → f m) → ((m : List ℕ) → s m → space_next m ≡ false) → Laws (Shown kind) (group_pieces kind) (read_group kind) (Gap s) f
+-- a gap, and then the thirds of a group
+group_laws : (g : Group) {s f : List ℕ → Type 0} → Laws (λ x. x ≤ highest g) (third_pieces g) (read_third g) s f
+    → ((m : List ℕ) → Head (eqb 47) m → f m) → ((m : List ℕ) → s m → space_next m ≡ false) → Laws (Shown g) (group_pieces g) (read_group g) (Gap s) f
 unfolding read_group
-group_laws kind F meet starts = gap-laws (three-laws F meet) starts
+group_laws g F meet starts = gap-laws (three-laws F meet) starts
 
 -- codes
-code_laws : Laws (λ x. x ≤ highest codes) (third_pieces codes) (read_third codes) (Head is_digit) Any
+code_laws : Laws (λ x. x ≤ highest Codes) (third_pieces Codes) (read_third Codes) (Head is_digit) Any
 unfolding third_pieces read_third highest
 code_laws = revalid (digits-laws 0) (λ x. x ≤ 9) (λ x h. omega arith) (λ x h. omega arith)
 
-pub codes-laws : Laws (Shown codes) (group_pieces codes) (read_group codes) (Gap (Head is_digit)) Any
-codes-laws = group_laws codes code_laws (λ m h. tt) (not-space is_digit refl)
+pub codes-laws : Laws (Shown Codes) (group_pieces Codes) (read_group Codes) (Gap (Head is_digit)) Any
+codes-laws = group_laws Codes code_laws (λ m h. tt) (not-space is_digit refl)
 
 -- measures: NR, or a number that is not 0
 NR-inline : inline (words "NR") ≡ true
@@ -90,19 +92,19 @@ measure-laws = or-laws (λ x. eqb x 0)
 name-not-space : (m : List ℕ) → Head is_name m → space_next m ≡ false
 name-not-space = not-space is_name refl
 
-coverage-laws : Laws (λ x. x ≤ highest coverages) (third_pieces coverages) (read_third coverages) (Head is_name) NoDigit
+coverage-laws : Laws (λ x. x ≤ highest Coverages) (third_pieces Coverages) (read_third Coverages) (Head is_name) NoDigit
 unfolding third_pieces read_third highest read_coverage
 coverage-laws = revalid (if-laws measure-laws (λ x. leb x 100)) (λ x. x ≤ 100) (λ x h. leb-true x 100 h.1) (λ x h. (omega arith, le-leb x 100 h))
 
-pub coverages-laws : Laws (Shown coverages) (group_pieces coverages) (read_group coverages) (Gap (Head is_name)) NoDigit
-coverages-laws = group_laws coverages coverage-laws (head-not 47 is_digit refl) name-not-space
+pub coverages-laws : Laws (Shown Coverages) (group_pieces Coverages) (read_group Coverages) (Gap (Head is_name)) NoDigit
+coverages-laws = group_laws Coverages coverage-laws (head-not 47 is_digit refl) name-not-space
 
-depth-laws : Laws (λ x. x ≤ highest depths) (third_pieces depths) (read_third depths) (Head is_name) NoDigit
+depth-laws : Laws (λ x. x ≤ highest Depths) (third_pieces Depths) (read_third Depths) (Head is_name) NoDigit
 unfolding third_pieces read_third highest
 depth-laws = measure-laws
 
-pub depths-laws : Laws (Shown depths) (group_pieces depths) (read_group depths) (Gap (Head is_name)) NoDigit
-depths-laws = group_laws depths depth-laws (head-not 47 is_digit refl) name-not-space
+pub depths-laws : Laws (Shown Depths) (group_pieces Depths) (read_group Depths) (Gap (Head is_name)) NoDigit
+depths-laws = group_laws Depths depth-laws (head-not 47 is_digit refl) name-not-space
 
 -- descriptions: none is read where a longer one stands
 descriptions-good : all (good word_on is_letter description_name description_order) description_order ≡ true
@@ -124,7 +126,7 @@ no_more d h = leb-true d dry (all-at (λ d. leb d dry) description_order d refl 
 names : Laws (λ d. member description_order d ≡ true) description_pieces (read_name description_name description_order) (Head is_letter) (λ r. word_next r ≡ false)
 names = name-laws word_on (λ r. word_next r ≡ false) on-misfit is_letter description_name description_order descriptions-good
 
-description-laws : Laws (λ x. x ≤ highest descriptions) (third_pieces descriptions) (read_third descriptions) (Head is_letter) (λ r. word_next r ≡ false)
+description-laws : Laws (λ x. x ≤ highest Descriptions) (third_pieces Descriptions) (read_third Descriptions) (Head is_letter) (λ r. word_next r ≡ false)
 unfolding third_pieces read_third highest read_description
 description-laws = revalid names (λ d. d ≤ dry) no_more in_order
 
@@ -138,5 +140,5 @@ description-head m {d} e =
     let x = names.sound {m = m} e in
     spell-head is_letter (description_name d) (all-at (λ d. head_is is_letter (description_name d)) description_order d heads-good x.0) x.1
 
-pub descriptions-laws : Laws (Shown descriptions) (group_pieces descriptions) (read_group descriptions) (Gap (Head is_letter)) (λ r. word_next r ≡ false)
-descriptions-laws = group_laws descriptions description-laws (no_word 47 refl refl) (not-space is_letter refl)
+pub descriptions-laws : Laws (Shown Descriptions) (group_pieces Descriptions) (read_group Descriptions) (Gap (Head is_letter)) (λ r. word_next r ≡ false)
+descriptions-laws = group_laws Descriptions description-laws (no_word 47 refl refl) (not-space is_letter refl)

@@ -1,0 +1,2 @@
+-- How the code's contracts speak of a writer.
+pub mod Code
