@@ -1,4 +1,3 @@
-pub mod Iter
 pub mod Places
 pub mod Laws
 pub mod Theorems

@@ -6,6 +6,7 @@
 ghost use Rattle.std.specs.Prelude.{◌≡◌, ◌<◌, ◌≤◌, length, MatchOption, MatchResult};
 ghost use Rattle.std.specs.List.{list_all, zip};
 ghost use Rattle.text.specs.Choice.{all};
+ghost use Rattle.text.specs.Refusals.{number};
 ghost use Rattle.row.specs.Row.{is_blank_row};
 ghost use Rattle.board.specs.Board.{is_aerodrome, blank_runway, is_blank_runway, rises, rising, valid_list, names, fits_place, valid_places, latest_shown, is_desk, valid_owners, valid_opening, valid_board, blank_board, answer, opening, refused_opening};
 ghost use Rattle.board.specs.Report.{place_of, place_for, is_news, refusal, newest, report};
@@ -16,7 +17,7 @@ use frontlines::read_aerodrome;
 use row::{HIGHEST_RUNWAY, Row, blank_row, is_blank_row, valid_row};
 use runway::{is_later, valid_runway};
 use scan::zeros_from;
-use text::refusal;
+use text::refusal::Refusal;
 
 // Runways rise by number, and then by side.
 #[repr(C)]
@@ -67,7 +68,7 @@ pub const BLANK_RUNWAY: Runway = Runway { number: 0, side: 0 };
 fn is_aerodrome(a: [u8; 4]) -> bool
     ensures { result ≡ is_aerodrome a }
 {
-    read_aerodrome(&a).fits
+    read_aerodrome(&a).is_some()
 }
 
 fn is_blank_runway(w: Runway) -> bool
@@ -227,7 +228,7 @@ pub fn refused_opening() -> Answer
     ensures { result ≡ refused_opening }
 {
     Answer {
-        refusal: refusal::WRONG_BOARD,
+        refusal: Refusal::WrongBoard.number(),
         board: blank_board(),
     }
 }
@@ -269,36 +270,36 @@ fn is_news(r: Row, shown: Row) -> bool
 }
 
 // The place that a report is stored in, or the first thing that is wrong with it: 17, 23, 19, 18, 22, 20.
-fn place_taken(b: &Board, x: Sent) -> Result<usize, u8>
+fn place_taken(b: &Board, x: Sent) -> Result<usize, Refusal>
     ensures { MatchResult result
         (λ i. (refusal b.now x.desk x.row ≡ 0) × (i ≡ place_for b.now x.row))
-        (λ e. (refusal b.now x.desk x.row ≡ e) × (e ≡ 0 → ⊥)) }
+        (λ e. refusal b.now x.desk x.row ≡ number e) }
 {
     if !valid_board(*b) {
-        return Err(refusal::WRONG_BOARD);
+        return Err(Refusal::WrongBoard);
     }
     if !is_desk(x.desk) {
-        return Err(refusal::NO_DESK);
+        return Err(Refusal::NoDesk);
     }
     if !valid_row(x.row) {
-        return Err(refusal::INVALID_ROW);
+        return Err(Refusal::InvalidRow);
     }
     let runways = &b.runways[..b.count as usize];
     let Some(i) = place_of(x.row, runways) else {
-        return Err(refusal::NOT_ON_BOARD);
+        return Err(Refusal::NotOnBoard);
     };
     if x.desk != u32::from(b.owners[i]) {
-        return Err(refusal::OTHERS_RUNWAY);
+        return Err(Refusal::OthersRunway);
     }
     if !is_news(x.row, b.rows[i]) {
-        return Err(refusal::NOT_LATER);
+        return Err(Refusal::NotLater);
     }
     Ok(i)
 }
 
 // The board with the report stored.
-fn after_report(b: Board, x: Sent) -> Result<Board, u8>
-    ensures { MatchResult result (λ c. report b x.desk x.row ≡ answer 0 c) (λ e. report b x.desk x.row ≡ answer e b) }
+fn after_report(b: Board, x: Sent) -> Result<Board, Refusal>
+    ensures { MatchResult result (λ c. report b x.desk x.row ≡ answer 0 c) (λ e. report b x.desk x.row ≡ answer (number e) b) }
 {
     let i = place_taken(&b, x)?;
     let mut next = b;
@@ -313,7 +314,10 @@ pub fn report(b: Board, x: Sent) -> Answer
 {
     match after_report(b, x) {
         Ok(board) => Answer { refusal: 0, board },
-        Err(refusal) => Answer { refusal, board: b },
+        Err(refusal) => Answer {
+            refusal: refusal.number(),
+            board: b,
+        },
     }
 }
 

@@ -2,7 +2,7 @@ use Rattle.std.proofs.Common.{rules}
 use Rattle.std.proofs.lemmas.Iterator.{YieldsList-from_slice}
 use Rattle.std.proofs.lemmas.Iterator.Search.{all_from_yields_List}
 use Rattle.board.specs.Board.{is_desk}
-use Rattle.board.proofs.Iter.{all_answer}
+use Rattle.text.specs.Laws.Iter.{all_answer}
 use Rattle.board.proofs.all_desks.Goals as goal
 
 pub returns : goal.returns

@@ -2,7 +2,7 @@ use Rattle.std.proofs.Common.{rules}
 use Rattle.std.proofs.lemmas.Iterator.{YieldsList-from_slice}
 use Rattle.std.proofs.lemmas.Iterator.Search.{all_from_yields_List}
 use Rattle.row.specs.Row.{is_blank_row}
-use Rattle.board.proofs.Iter.{all_answer}
+use Rattle.text.specs.Laws.Iter.{all_answer}
 use Rattle.board.proofs.all_unreported.Goals as goal
 
 pub returns : goal.returns
