@@ -12,7 +12,7 @@ use Rattle.text.specs.Numbers.{digits, is_digit}
 use Rattle.text.specs.Laws.Typing.{cut}
 use Rattle.text.specs.Read.{Got, misfit, got, whole, read_as}
 use Rattle.text.specs.Arrays.{is_zero, pad}
-use Rattle.text.specs.Laws.Base.{Laws, Head, Any, inner, inline, and-1, and-2}
+use Rattle.text.specs.Laws.Base.{Laws, Head, Any, inner, inline, and-1, and-2, true-false}
 use Rattle.text.specs.Laws.Held.{Told, told-one}
 use Rattle.text.specs.Laws.Combine.{seq-laws, as-laws, loosen}
 use Rattle.text.proofs.Laws.Combine.{after-laws}
@@ -37,7 +37,7 @@ use Rattle.board.specs.declared.Runway.{Runway}
 use Rattle.board.specs.declared.Board.{Board}
 use Rattle.board.specs.declared.Answer.{Answer}
 use Rattle.board.specs.Board.{places, blank_runway, is_blank_runway, is_aerodrome, rises, rising, valid_list, is_desk, valid_owners, valid_opening, fits_place}
-use Rattle.board.specs.Board.{runways_of, valid_board, fresh, answer, opening, refused_opening}
+use Rattle.board.specs.Board.{runways_of, valid_board, fresh, blank_board, answer, opening, refused_opening}
 use Rattle.board.specs.Report.{row_at}
 use Rattle.board.specs.Shows.{nothing, row, shown_at}
 use Rattle.board.specs.Laws.Rows.{blank-invalid}
@@ -185,6 +185,19 @@ opening-long line h = go (whole (read_opening line)) refl
         let (v, t) = whole-sound opening-laws {m = line} q in
         let c = cut (verbatim p.0) t in
         absurd (omega (arith, letters-long aerodrome_size p.0 v.0, v.1.0, verbatim-short p.0 c.left, runways-short p.1 c.right))
+
+-- a line that is refused gives the blank board
+pub refused-blank : (line : List ℕ) → eqb (opening_line line).refusal 0 ≡ false → (opening_line line).board ≡ blank_board
+unfolding opening_line opening
+refused-blank line e = go (whole (read_opening line)) e
+  where
+    opened : (t : Bool) (b : Board) → eqb (cond t (answer 0 b) refused_opening).refusal 0 ≡ false → (cond t (answer 0 b) refused_opening).board ≡ blank_board
+    opened true b e = true-false e
+    opened false b e = refl
+
+    go : (g : Got (List ℕ × List (Runway × ℕ))) → eqb (opening_read g).refusal 0 ≡ false → (opening_read g).board ≡ blank_board
+    go misfit e = refl
+    go (got p r) e = let l = list_of p.1 in opened (valid_opening p.0 l.count l.runways l.owners) (fresh p.0 l.count l.runways l.owners) e
 
 -- a line over 4,096 bytes is no row
 pub long-report : (b : Board) (line : List ℕ) → longest < length line → report_line b line ≡ answer no_row b
