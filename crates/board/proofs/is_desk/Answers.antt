@@ -1,11 +1,11 @@
-use Rattle.text.specs.Laws.Tests.{tests}
+use Rattle.std.proofs.Common.{arith}
 use Rattle.board.specs.Board.{is_desk}
 use Rattle.board.proofs.is_desk.Goals as goal
 
 pub returns-then-desk-eq1 : goal.returns-then-desk-eq1
 unfolding is_desk
-returns-then-desk-eq1 c = search tests
+returns-then-desk-eq1 c = grind arith
 
-pub returns : goal.returns
+pub returns-else-desk-eq1 : goal.returns-else-desk-eq1
 unfolding is_desk
-returns c = search tests
+returns-else-desk-eq1 c = grind arith

@@ -1,11 +1,11 @@
+use Rattle.std.proofs.Common.{arith}
 use Rattle.board.specs.Report.{is_news}
-use Rattle.text.specs.Laws.Tests.{tests}
 use Rattle.board.proofs.is_news.Goals as goal
 
 pub returns-then-is_blank_row : goal.returns-then-is_blank_row
 unfolding is_news
-returns-then-is_blank_row c = search tests
+returns-then-is_blank_row c = grind arith
 
-pub returns : goal.returns
+pub returns-else-is_blank_row : goal.returns-else-is_blank_row
 unfolding is_news
-returns c = search tests
+returns-else-is_blank_row c = grind arith

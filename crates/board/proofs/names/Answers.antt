@@ -1,11 +1,12 @@
+use Rattle.std.proofs.Common.{arith}
+use Rattle.text.specs.Choice.{◌and◌}
 use Rattle.board.specs.Board.{names}
-use Rattle.text.specs.Laws.Tests.{tests}
 use Rattle.board.proofs.names.Goals as goal
 
 pub returns-then-r-w : goal.returns-then-r-w
-unfolding names
-returns-then-r-w c = search tests
+unfolding names ◌and◌
+returns-then-r-w c = grind arith
 
-pub returns : goal.returns
-unfolding names
-returns c = search tests
+pub returns-else-r-w : goal.returns-else-r-w
+unfolding names ◌and◌
+returns-else-r-w c = grind arith

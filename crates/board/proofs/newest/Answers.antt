@@ -1,11 +1,11 @@
-use Rattle.text.specs.Laws.Tests.{tests}
+use Rattle.std.proofs.Common.{arith}
 use Rattle.board.specs.Report.{newest}
 use Rattle.board.proofs.newest.Goals as goal
 
 pub returns-then-latest-eq0 : goal.returns-then-latest-eq0
 unfolding newest
-returns-then-latest-eq0 c = search tests
+returns-then-latest-eq0 c = grind arith
 
-pub returns : goal.returns
+pub returns-else-latest-eq0 : goal.returns-else-latest-eq0
 unfolding newest
-returns c = simp (← c.later_of.ensures) (search tests)
+returns-else-latest-eq0 c = grind arith

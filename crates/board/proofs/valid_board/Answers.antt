@@ -1,26 +1,27 @@
-use mathlib.Core.Path.{sym, ◌∙◌, ap}
-use lib.Dec.{eqb}
+use Rattle.std.proofs.Common.{arith, sym, ◌∙◌}
+use Rattle.text.specs.Choice.{◌and◌}
 use Rattle.board.specs.Board.{valid_board}
-use Rattle.board.specs.Laws.Rules.{places-good}
-use Rattle.text.specs.Laws.Tests.{tests, and-on}
+use Rattle.board.specs.Laws.Rules.{opening-few, places-good}
 use Rattle.board.proofs.valid_board.Goals as goal
+use Rattle.board.proofs.valid_board.Goals.{then-valid_opening, else-valid_opening}
+
+pub valid_places-requires : goal.valid_places-requires
+valid_places-requires c =
+    let b = c.args.b in
+    opening-few b.aerodrome b.count b.runways b.owners (sym c.valid_opening.ensures ∙ c.if-valid_opening.true)
 
 pub latest_shown-requires : goal.latest_shown-requires
 latest_shown-requires c =
     let b = c.args.b in
-    places-good b.count b.runways b.rows (sym c.valid_places.ensures ∙ c.if-valid_places.true)
+    elim c.if-valid_opening.branch [
+      | then-valid_opening w ↦ places-good b.count b.runways b.rows (sym w.valid_places.ensures ∙ (sym w.value-is ∙ c.if-valid_places.true))
+      | else-valid_opening w ↦ absurd (cc)
+    ]
 
 pub returns-then-valid_places : goal.returns-then-valid_places
-unfolding valid_board
-returns-then-valid_places c =
-    let b = c.args.b in
-    and-on _ _ _ (sym c.valid_opening.ensures ∙ c.if-valid_opening.true)
-    (and-on _ _ _ (sym c.valid_places.ensures ∙ c.if-valid_places.true) (ap (eqb b.latest) c.latest_shown.ensures))
+unfolding valid_board ◌and◌
+returns-then-valid_places c = grind arith
 
 pub returns-else-valid_places : goal.returns-else-valid_places
-unfolding valid_board
-returns-else-valid_places c = search tests
-
-pub returns-else-valid_opening : goal.returns-else-valid_opening
-unfolding valid_board
-returns-else-valid_opening c = search tests
+unfolding valid_board ◌and◌
+returns-else-valid_places c = grind arith
