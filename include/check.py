@@ -98,6 +98,12 @@ def source_constants(path):
     return {m[1]: int(m[2]) for m in re.finditer(r"pub const (\w+): \w+ = (\d+);", source(path))}
 
 
+def source_variants(path):
+    """The cases of an enum with their numbers, spelled as constants: NotLater is NOT_LATER, Line1Or2 is LINE_1_OR_2."""
+    spelled = lambda name: re.sub(r"(?<!^)(?=[A-Z])|(?<=[a-z])(?=\d)", "_", name).upper()
+    return {spelled(m[1]): int(m[2]) for m in re.finditer(r"^    (\w+) = (\d+),$", source(path), re.M)}
+
+
 def element(kind):
     """The element type and length of an array type, else None."""
     m = re.fullmatch(r"\[(\w+); (\d+)\]", kind)
@@ -294,7 +300,7 @@ class Sources:
     def __init__(self):
         self.structs = source_structs()
         self.functions = source_functions()
-        self.refusals = {"TAKEN": 0, **source_constants("crates/text/src/refusal.rt")}
+        self.refusals = {"TAKEN": 0, **source_variants("crates/text/src/refusal.rt")}
         # C and Rust spell ON out.
         self.descriptions = {n.replace("_ON_", "_ON_TOP_OF_"): v for n, v in source_constants("crates/surface/src/description.rt").items()}
         self.longest = {n: source_constants(f"crates/{crate}/src/lib.rt")[name] for n, (crate, name) in LONGEST.items()}

@@ -44,89 +44,58 @@ pub const MOST_ROWS: u8 = 8;
 // How many digits a row's time has.
 const TIME_SIZE: usize = 8;
 
-// Whether the runway of `r` is one of those of the first `count` rows.
-pub fn is_among(r: Row, rows: [Row; 8], count: u8) -> bool
-    ensures { result ≡ is_among r (take count rows) }
-{
-    let mut i: u8 = 0;
-    while i < MOST_ROWS {
-        if count <= i {
-            return false;
+impl Rows {
+    // The rows that count; the array is all that a wrong count can show.
+    pub fn shown(&self) -> &[Row]
+        ensures { result.now ≡ rows_of self.now }
+    {
+        if self.count <= MOST_ROWS {
+            &self.rows[..self.count as usize]
+        } else {
+            &self.rows
         }
-        let s = rows[i as usize];
-        if same_runway(s, r) {
-            return true;
-        }
-        i += 1;
     }
-    false
 }
 
-pub fn all_valid(rows: [Row; 8], count: u8) -> bool
-    ensures { result ≡ all valid_row (take count rows) }
+// Whether the runway of `r` is one of those of `rows`.
+pub fn is_among(r: Row, rows: &[Row]) -> bool
+    ensures { result ≡ is_among r rows.now }
 {
-    let mut i: u8 = 0;
-    while i < MOST_ROWS {
-        if count <= i {
-            return true;
-        }
-        let r = rows[i as usize];
-        if !valid_row(r) {
+    rows.iter().any(|&s| same_runway(s, r))
+}
+
+pub fn all_valid(rows: &[Row]) -> bool
+    ensures { result ≡ all valid_row rows.now }
+{
+    rows.iter().all(|&r| valid_row(r))
+}
+
+pub fn all_new(rows: &[Row]) -> bool
+    ensures { result ≡ new_runways [] rows.now }
+{
+    for (i, &r) in rows.iter().enumerate() {
+        if is_among(r, &rows[..i]) {
             return false;
         }
-        i += 1;
     }
     true
 }
 
-pub fn all_new(rows: [Row; 8], count: u8) -> bool
-    ensures { result ≡ new_runways [] (take count rows) }
+fn all_blank(rows: &[Row]) -> bool
+    ensures { result ≡ all is_blank_row rows.now }
 {
-    let mut i: u8 = 0;
-    while i < MOST_ROWS {
-        if count <= i {
-            return true;
-        }
-        let r = rows[i as usize];
-        if is_among(r, rows, i) {
-            return false;
-        }
-        i += 1;
-    }
-    true
-}
-
-fn rest_blank(rows: [Row; 8], count: u8) -> bool
-    ensures { result ≡ all is_blank_row (drop count rows) }
-{
-    let mut i = count;
-    while i < MOST_ROWS {
-        let r = rows[i as usize];
-        if !is_blank_row(r) {
-            return false;
-        }
-        i += 1;
-    }
-    true
+    rows.iter().all(|&r| is_blank_row(r))
 }
 
 // 1 to 8 valid rows, no runway twice, zeros past the count.
 pub fn valid_rows(r: Rows) -> bool
     ensures { result ≡ valid_rows r }
 {
-    if r.count < 1 {
-        return false;
-    }
-    if MOST_ROWS < r.count {
-        return false;
-    }
-    let rows = r.rows;
-    if all_valid(rows, r.count) {
-        if all_new(rows, r.count) {
-            return rest_blank(rows, r.count);
-        }
-    }
-    false
+    1 <= r.count
+        && r.count <= MOST_ROWS
+        && all_valid(r.shown())
+        && all_new(r.shown())
+        && all_blank(&r.rows[r.count as usize..])
 }
 
 // Of two times the later.
@@ -140,22 +109,10 @@ pub fn later_of(t: u32, s: u32) -> u32
 pub fn latest_time(r: Rows) -> u32
     ensures { result ≡ latest (rows_of r) }
 {
-    let rows = r.rows;
-    if r.count == 0 {
-        return 0;
+    match r.shown() {
+        [] => 0,
+        [first, rest @ ..] => rest.iter().fold(first.time, |t, s| later_of(t, s.time)),
     }
-    let first = rows[0];
-    let mut t = first.time;
-    let mut i: u8 = 1;
-    while i < MOST_ROWS {
-        if r.count <= i {
-            return t;
-        }
-        let s = rows[i as usize];
-        t = later_of(t, s.time);
-        i += 1;
-    }
-    t
 }
 
 // A line in a row's place: its row, or the refusal and its place, and whether `)` closes it.
@@ -306,17 +263,10 @@ fn row_at(out: &mut [u8], at: usize, row: Row) -> usize
 pub fn put_rows(out: &mut [u8], at: usize, r: Rows) -> usize
     ensures { Put at (under (map row_pieces (rows_of r))) out.old out.new result }
 {
-    let rows = r.rows;
     let mut behind = told_behind(out, at, 0);
-    let mut i: u8 = 0;
-    while i < MOST_ROWS {
-        if r.count <= i {
-            return behind;
-        }
-        let row = rows[i as usize];
+    for &row in r.shown() {
         let line = put(out, behind, b"\n");
         behind = row_at(out, line, row);
-        i += 1;
     }
     behind
 }

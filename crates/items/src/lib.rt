@@ -8,11 +8,10 @@ ghost use Rattle.text.specs.Names.{is_name};
 ghost use Rattle.text.specs.Piece.{canonical, verbatim};
 ghost use Rattle.text.specs.Put.{Put};
 ghost use Rattle.text.specs.Arrays.{slots};
-ghost use Rattle.items.specs.Item.{letters, on_runway, highest_for, is_between, runway_fits, amount_fits, edge_fits, count_fits, valid_slot, is_new, slots_fit, taxiways_fit, name_fits, numbers_fit, valid_item};
+ghost use Rattle.items.specs.Item.{taxiway_size, letters, on_runway, highest_for, is_between, runway_fits, amount_fits, edge_fits, count_fits, valid_slot, is_new, slots_fit, taxiways_fit, name_fits, numbers_fit, valid_item};
 ghost use Rattle.items.specs.Awareness.{same_runway, other_apron, may_repeat, may_follow, sound_items, is_blank, no_numbers, blank_item, is_blank_item};
 ghost use Rattle.items.specs.Parts.{items_of, language_of, holds_items, holds_language};
 ghost use Rattle.items.specs.Language.{valid_language};
-ghost use Rattle.items.specs.Code.Held.{SlotEnd};
 
 pub mod words;
 
@@ -211,16 +210,12 @@ fn count_fits(i: Item) -> bool
     i.count == 0
 }
 
-// The end of the slot that starts at `at`, or of the array where that comes first.
-fn slot_end(t: &[u8], at: usize) -> usize
-    requires { at ≤ length t.now }
-    ensures { SlotEnd t.now at result }
+// The first slot of three bytes, or all that is left, and what lies behind it.
+pub fn first_slot(t: &[u8]) -> (&[u8], &[u8])
+    ensures slot { result.0.now ≡ take taxiway_size t.now }
+    ensures rest { result.1.now ≡ drop taxiway_size t.now }
 {
-    if t.len() - at < TAXIWAY_SIZE {
-        t.len()
-    } else {
-        at + TAXIWAY_SIZE
-    }
+    t.split_at(TAXIWAY_SIZE.min(t.len()))
 }
 
 fn valid_slot(s: &[u8]) -> bool
@@ -239,15 +234,13 @@ fn valid_slot(s: &[u8]) -> bool
 fn is_new(w: &[u8], t: &[u8], n: u8) -> bool
     ensures { result ≡ is_new w.now (slots 3 n t.now) }
 {
-    let mut at = 0;
-    let mut left = n;
-    while 0 < left {
-        let end = slot_end(t, at);
-        if same_bytes(w, &t[at..end]) {
+    let mut rest = t;
+    for _ in 0..n {
+        let (slot, others) = first_slot(rest);
+        if same_bytes(w, slot) {
             return false;
         }
-        at = end;
-        left -= 1;
+        rest = others;
     }
     true
 }
@@ -256,22 +249,15 @@ fn is_new(w: &[u8], t: &[u8], n: u8) -> bool
 fn slots_fit(n: u8, t: &[u8]) -> bool
     ensures { result ≡ slots_fit n t.now }
 {
-    let mut at = 0;
-    let mut left = n;
-    while 0 < left {
-        let end = slot_end(t, at);
-        left -= 1;
-        if valid_slot(&t[at..end]) {
-            if is_new(&t[at..end], &t[end..], left) {
-                at = end;
-            } else {
-                return false;
-            }
-        } else {
+    let mut rest = t;
+    for k in 0..n {
+        let (slot, others) = first_slot(rest);
+        if !(valid_slot(slot) && is_new(slot, others, n - k - 1)) {
             return false;
         }
+        rest = others;
     }
-    zeros_from(t, at)
+    zeros_from(rest, 0)
 }
 
 fn taxiways_fit(n: u8, t: &[u8]) -> bool
@@ -330,7 +316,7 @@ pub fn valid_item(i: Item) -> bool
 // ---- Which items may stand together
 
 // Whether a name stands in the field.
-fn is_named(name: &[u8]) -> bool
+pub fn is_named(name: &[u8]) -> bool
     ensures { result ≡ head_is is_name name.now }
 {
     counted(name, 0, Class::Names, 1)

@@ -12,7 +12,7 @@ use Rattle.text.specs.Numbers.{digits}
 use Rattle.text.specs.Put.{Put}
 use Rattle.text.specs.Laws.Put.{canonical-append, whole-put}
 use Rattle.runway.specs.Runway.{runway_pieces}
-use Rattle.thirds.specs.Groups.{codes, descriptions}
+use Rattle.thirds.specs.declared.Group.TheVariants.{Codes, Descriptions}
 use Rattle.rowtext.specs.Text.{group_of, middle_pieces, width_pieces, row_pieces}
 use Rattle.rowtext.specs.Writing.{WroteRow}
 use Rattle.row.specs.declared.Row.{Row}
@@ -28,9 +28,9 @@ pub row-bytes : (r : Row) → canonical (row_pieces r)
     ≡ canonical (digits 8 r.time)
     ++ (bytes " "
     ++ (canonical (runway_pieces r.number r.side)
-    ++ (canonical (group_of codes r) ++ (canonical (middle_pieces r) ++ (canonical (group_of descriptions r) ++ canonical (width_pieces r.width))))))
+    ++ (canonical (group_of Codes r) ++ (canonical (middle_pieces r) ++ (canonical (group_of Descriptions r) ++ canonical (width_pieces r.width))))))
 unfolding row_pieces
-row-bytes r = row-joined (digits 8 r.time) (runway_pieces r.number r.side) (group_of codes r) (middle_pieces r) (group_of descriptions r) (width_pieces r.width)
+row-bytes r = row-joined (digits 8 r.time) (runway_pieces r.number r.side) (group_of Codes r) (middle_pieces r) (group_of Descriptions r) (width_pieces r.width)
 
 -- a text that fits is put whole, and one that does not is not put
 module _ {t b : List ℕ} where

@@ -12,7 +12,8 @@ use Rattle.surface.specs.Descriptions.{is_contaminant, is_deep, not_reported, dr
 use Rattle.surface.specs.Third.{third, is_coverage, valid_coverage, least_depth, is_reported, valid_depth, valid_third}
 use Rattle.surface.specs.Edges as Surface
 use Rattle.surface.specs.declared.Third.{Third}
-use Rattle.thirds.specs.Groups.{coverages, depths, measure_pieces, read_measure, read_coverage, read_description, third_pieces, read_third, read_group}
+use Rattle.thirds.specs.Groups.{measure_pieces, read_measure, read_coverage, read_description, third_pieces, read_third, read_group}
+use Rattle.thirds.specs.declared.Group.TheVariants.{Coverages, Depths}
 use Rattle.row.specs.Row.{blank_row, three_that, valid_row, is_bare, is_six, is_dry, is_short}
 use Rattle.rowtext.specs.Text.{group_of, middle_pieces, width_pieces, row_pieces}
 use Rattle.rowtext.specs.Reading.{parted, may_cover, may_lie, read_width}
@@ -343,7 +344,7 @@ pub record Written : Type 0 where
   invalid : row_text (row (each (bare 7 dry)) 0) ≡ []
   unjudged : canonical (row_pieces (row (each (bare 7 dry)) 0)) ≡ bytes "01120640 07 7/7/7 DRY/DRY/DRY"
   -- the two groups that freedom (d) writes are those of a row with neither coverage nor depth
-  left_out : group_of coverages (row (each (bare 6 dry)) 0) ++ group_of depths (row (each (bare 6 dry)) 0) ≡ nr_text
+  left_out : group_of Coverages (row (each (bare 6 dry)) 0) ++ group_of Depths (row (each (bare 6 dry)) 0) ≡ nr_text
 
 pub written : Written
 unfolding ◌and◌ spell digits is_short_month days_of real_day real_clock real_time valid_runway is_contaminant is_deep is_coverage valid_coverage least_depth is_reported

@@ -11,7 +11,8 @@ use Rattle.runway.specs.Runway.{valid_runway, read_runway}
 use Rattle.surface.specs.Descriptions.{not_reported}
 use Rattle.surface.specs.Third.{third, is_code, is_coverage, valid_coverage, valid_depth}
 use Rattle.surface.specs.declared.Third.{Third}
-use Rattle.thirds.specs.Groups.{Three, codes, coverages, depths, descriptions, read_group}
+use Rattle.thirds.specs.Groups.{Three, read_group}
+use Rattle.thirds.specs.declared.Group.TheVariants.{Codes, Coverages, Depths, Descriptions}
 use Rattle.row.specs.Row.{blank_row, highest_runway, is_short}
 use Rattle.row.specs.declared.Row.{Row}
 use Rattle.rowtext.specs.declared.RowRead.{RowRead}
@@ -82,19 +83,19 @@ runway_group = read_alone (read_if is_runway (read_gap read_runway))
 
 -- the codes
 unfoldable pub code_group : List ℕ → Got Three
-code_group = read_alone (read_if (each is_code) (read_group codes))
+code_group = read_alone (read_if (each is_code) (read_group Codes))
 
 -- the coverages
 unfoldable pub coverage_group : List ℕ → Got Three
-coverage_group = read_alone (read_if (each may_cover) (read_group coverages))
+coverage_group = read_alone (read_if (each may_cover) (read_group Coverages))
 
 -- the depths
 unfoldable pub depth_group : List ℕ → Got Three
-depth_group = read_alone (read_if (each may_lie) (read_group depths))
+depth_group = read_alone (read_if (each may_lie) (read_group Depths))
 
 -- "The longest description that stands there is taken, and what follows the third is 28"
 unfoldable pub description_group : List ℕ → Got Three
-description_group = read_group descriptions
+description_group = read_group Descriptions
 
 -- the width, 0 where none stands there
 unfoldable pub width_group : List ℕ → Got ℕ
@@ -102,7 +103,7 @@ width_group = read_alone read_width
 
 -- "A row is short when three descriptions follow the codes with nothing but a width after them."
 unfoldable pub short : List ℕ → Bool
-short m = is_got (whole (read_seq (read_group descriptions) read_width m))
+short m = is_got (whole (read_seq (read_group Descriptions) read_width m))
 
 -- a group: n at "the first byte of the group at fault", "for a missing group its row's end"
 abbrev pub group : {A B : Type 0} → ℕ → (List ℕ → Got A) → List ℕ → (A → List ℕ → Out B) → Out B

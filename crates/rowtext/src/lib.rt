@@ -2,324 +2,273 @@
 
 #![tactic(auto)]
 
-ghost use Rattle.std.specs.Prelude.{◌≡◌, [], ◌∷◌, ◌<◌, ◌≤◌, leb, length, drop};
+ghost use Rattle.std.specs.Prelude.{◌≡◌, ◌≤◌, leb, length, drop, IfSome};
 ghost use Rattle.text.specs.Choice.{all};
 ghost use Rattle.text.specs.Piece.{canonical};
-ghost use Rattle.text.specs.Read.{skip};
-ghost use Rattle.text.specs.Out.{refuse, taken};
+ghost use Rattle.text.specs.Out.{taken};
 ghost use Rattle.text.specs.Put.{Put};
+ghost use Rattle.text.specs.Code.Held.{Held};
+ghost use Rattle.runway.specs.Code.Held.{HeldRunway};
 ghost use Rattle.surface.specs.Third.{valid_coverage, valid_depth};
-ghost use Rattle.thirds.specs.Groups.{coverages, depths, descriptions};
-ghost use Rattle.thirds.specs.Code.Held.{trio, HeldThree};
+ghost use Rattle.thirds.specs.Groups.{highest};
+ghost use Rattle.thirds.specs.Code.Held.{three, HeldThree};
 ghost use Rattle.thirds.specs.Laws.Groups.{Shown};
 ghost use Rattle.rowtext.specs.Text.{field, group_of, middle_pieces, width_pieces, row_pieces};
-ghost use Rattle.rowtext.specs.Reading.{parted, find_row, row_answer};
+ghost use Rattle.rowtext.specs.Reading.{parted, each, time_group, runway_group, find_row, row_answer};
 ghost use Rattle.rowtext.specs.Writing.{row_text, WroteRow};
-ghost use Rattle.rowtext.specs.Code.Filling.{with_rest, may_stand, alone_group, judged, full_rest, fill_group, Filled, IfTaken, HeldWidth};
+ghost use Rattle.rowtext.specs.Code.Filling.{RowFound, with_number, with_group, with_rest, may_stand, alone_group, judged, full_rest, fill_group, Filled, FaultAt, HeldWidth};
 
 use fill::{put, put_digits};
 use row::{HIGHEST_RUNWAY, Row, blank_row, is_short, valid_row};
-use runway::{put_runway, read_runway, real_time, valid_runway};
+use runway::{RunwayFound, put_runway, read_runway, real_time, valid_runway};
 use scan::{digits, spaces, word};
 use surface::{Third, description, is_coverage, valid_coverage, valid_depth};
-use text::{Found, refusal};
-use thirds::{CODES, COVERAGES, DEPTHS, DESCRIPTIONS, NO_TRIO, Trio, put_group, read_group};
+use text::Found;
+use text::refusal::{Fault, Refusal};
+use thirds::{Group, Trio, put_group, read_group};
+
+// NR as a number that is read.
+const NR: u32 = description::NR as u32;
 
 // ---- Reading
 
-// A group read into a row: the row and the place behind the group, or the refusal and its place. Both places are counted within the part of the
-// line that was handed over.
+// The parts of a row, in the order in which they stand: coverages, depths and descriptions are one, since a short row has the last alone.
+#[derive(Clone, Copy)]
+pub enum Part {
+    Time,
+    Runway,
+    Codes,
+    Rest,
+    Width,
+}
+
+static PARTS: [Part; 5] = [
+    Part::Time,
+    Part::Runway,
+    Part::Codes,
+    Part::Rest,
+    Part::Width,
+];
+
+// A row with one part more, and the place behind that part. Places, those of faults too, are counted within the part of the line that was handed
+// over.
 #[derive(Clone, Copy)]
 pub struct Step {
-    // 0 for a group that fits
-    pub refusal: u8,
-    pub place: usize,
     pub row: Row,
     pub next: usize,
 }
 
-// The group that should follow the place `at` is at fault: at its first byte, or at the end where it is missing.
-fn fault(row: Row, refusal: u8, s: &[u8], at: usize) -> Step
-    requires { 0 < refusal }
-    ensures { Filled s.now (refuse refusal (skip (drop at s.now))) result }
+// A refusal of the part that should follow the place `at`: told at its first byte, or at the end where it is missing.
+fn fault(refusal: Refusal, s: &[u8], at: usize) -> Fault
+    ensures { FaultAt s.now (drop at s.now) refusal result }
 {
-    Step {
-        refusal,
-        place: spaces(s, at),
-        row,
-        next: 0,
-    }
+    refusal.at(spaces(s, at))
 }
 
 // A space stands at the place, or the line ends there: what is glued to a group belongs to it.
+#[tactic(auto, using(crate::proofs::Steps::parted_end, crate::proofs::Steps::parted_at))]
 fn parted(s: &[u8], at: usize) -> bool
     ensures { result ≡ parted (drop at s.now) }
 {
-    if s.len() <= at {
-        return true;
-    }
-    s[at] == b' '
+    s.len() <= at || s[at] == b' '
+}
+
+#[tactic(auto, unfolding(crate::specs::Reading::time_group))]
+fn time_group(s: &[u8]) -> Option<Found>
+    ensures { Held s.now (time_group s.now) result }
+{
+    digits(s, 0, 8).filter(|f| real_time(f.value) && parted(s, f.next))
 }
 
 // A time that is at fault is so at the line's first byte, whatever stands there.
-fn time_into(row: Row, s: &[u8]) -> Step
-    ensures { Filled s.now (fill_group 0 row s.now) result }
+#[tactic(auto, unfolding(crate::specs::Code::Filling::fill_group))]
+fn time_into(row: Row, s: &[u8]) -> Result<Step, Fault>
+    ensures { Filled s.now (fill_group Part.Time row s.now) result }
 {
-    let found = digits(s, 0, 8);
-    if found.fits {
-        if real_time(found.value) {
-            if parted(s, found.next) {
-                let mut row = row;
-                row.time = found.value;
-                return Step {
-                    refusal: 0,
-                    place: 0,
-                    row,
-                    next: found.next,
-                };
-            }
-        }
-    }
-    Step {
-        refusal: refusal::NO_ROW,
-        place: 0,
-        row,
-        next: 0,
+    let Some(time) = time_group(s) else {
+        return Err(Refusal::NoRow.at(0));
+    };
+    Ok(Step {
+        row: Row {
+            time: time.value,
+            ..row
+        },
+        next: time.next,
+    })
+}
+
+#[tactic(auto, unfolding(crate::specs::Reading::runway_group))]
+fn runway_group(s: &[u8]) -> Option<RunwayFound>
+    ensures { HeldRunway s.now (runway_group s.now) result }
+{
+    let gap = word(s, 0, b" ", 0)?;
+    read_runway(s, gap.next).filter(|f| valid_runway(HIGHEST_RUNWAY, f.number, f.side)
+        && parted(s, f.next))
+}
+
+#[tactic(auto, unfolding(crate::specs::Code::Filling::fill_group))]
+fn runway_into(row: Row, s: &[u8]) -> Result<Step, Fault>
+    ensures { Filled s.now (fill_group Part.Runway row s.now) result }
+{
+    let Some(runway) = runway_group(s) else {
+        return Err(fault(Refusal::WrongRunway, s, 0));
+    };
+    Ok(Step {
+        row: Row {
+            number: runway.number,
+            side: runway.side,
+            ..row
+        },
+        next: runway.next,
+    })
+}
+
+// What a number of a group may be whatever its description is.
+#[tactic(auto, unfolding(crate::specs::Code::Filling::may_stand, crate::specs::Reading::may_cover, crate::specs::Reading::may_lie))]
+fn may_stand(group: Group, x: u32) -> bool
+    ensures { result ≡ may_stand group x }
+{
+    match group {
+        Group::Codes => x <= 6,
+        Group::Coverages => x == NR || is_coverage(x),
+        Group::Depths => x == NR || 3 <= x,
+        Group::Descriptions => true,
     }
 }
 
-fn runway_into(row: Row, s: &[u8]) -> Step
-    ensures { Filled s.now (fill_group 1 row s.now) result }
+fn each_may_stand(group: Group, numbers: [u32; 3]) -> bool
+    ensures { result ≡ each (may_stand group) (three numbers) }
 {
-    let gap = word(s, 0, b" ", 0);
-    if gap.fits {
-        let found = read_runway(s, gap.next);
-        if found.fits {
-            if valid_runway(HIGHEST_RUNWAY, found.number, found.side) {
-                if parted(s, found.next) {
-                    let mut row = row;
-                    row.number = found.number;
-                    row.side = found.side;
-                    return Step {
-                        refusal: 0,
-                        place: 0,
-                        row,
-                        next: found.next,
-                    };
-                }
-            }
-        }
-    }
-    fault(row, refusal::WRONG_RUNWAY, s, 0)
+    numbers.iter().all(|&x| may_stand(group, x))
 }
 
-// What a code, a coverage or a depth may be whatever its description is.
-fn may_stand(kind: u8, x: u32) -> bool
-    ensures { result ≡ may_stand kind x }
+// A group of thirds by itself.
+#[tactic(auto, unfolding(crate::specs::Code::Filling::alone_group))]
+fn alone_group(group: Group, s: &[u8], at: usize) -> Option<Trio>
+    ensures { HeldThree s.now (alone_group group (drop at s.now)) result }
 {
-    if kind == CODES {
-        return x <= 6;
-    }
-    if x == description::NR as u32 {
-        return true;
-    }
-    if kind == COVERAGES {
-        return is_coverage(x);
-    }
-    3 <= x
+    read_group(group, s, at).filter(|t| each_may_stand(group, t.numbers) && parted(s, t.next))
 }
 
-// A group of codes, coverages or depths by itself.
-fn alone(kind: u8, s: &[u8], at: usize) -> Trio
-    ensures { HeldThree s.now (alone_group kind (drop at s.now)) result }
+// The third with its number of a group.
+#[tactic(auto, unfolding(thirds::specs::Groups::highest))]
+fn with_number(group: Group, t: Third, x: u32) -> Third
+    requires { x ≤ highest group }
+    ensures { result ≡ with_number group t x }
 {
-    let t = read_group(kind, s, at);
-    if t.fits {
-        if may_stand(kind, t.one) {
-            if may_stand(kind, t.two) {
-                if may_stand(kind, t.three) {
-                    if parted(s, t.next) {
-                        return t;
-                    }
-                }
-            }
-        }
+    match group {
+        Group::Codes => Third { code: x as u8, ..t },
+        Group::Coverages => Third {
+            coverage: x as u8,
+            ..t
+        },
+        Group::Depths => Third {
+            depth: x as u16,
+            ..t
+        },
+        Group::Descriptions => Third {
+            description: x as u8,
+            ..t
+        },
     }
-    NO_TRIO
 }
 
-fn codes_into(row: Row, s: &[u8]) -> Step
-    ensures { Filled s.now (fill_group 2 row s.now) result }
+// The row with its numbers of a group.
+fn with_group(group: Group, row: Row, numbers: [u32; 3]) -> Row
+    requires { Shown group (three numbers) }
+    ensures { result ≡ with_group group row (three numbers) }
 {
-    let c = alone(CODES, s, 0);
-    if !c.fits {
-        return fault(row, refusal::WRONG_CODES, s, 0);
-    }
-    let x = Third {
-        code: c.one as u8,
-        coverage: 0,
-        depth: 0,
-        description: 0,
+    let [a, b, c] = row.thirds;
+    let [x, y, z] = numbers;
+    let thirds = [
+        with_number(group, a, x),
+        with_number(group, b, y),
+        with_number(group, c, z),
+    ];
+    Row { thirds, ..row }
+}
+
+#[tactic(auto, using(crate::proofs::Steps::codes_alone), unfolding(crate::specs::Code::Filling::fill_group))]
+fn codes_into(row: Row, s: &[u8]) -> Result<Step, Fault>
+    ensures { Filled s.now (fill_group Part.Codes row s.now) result }
+{
+    let Some(codes) = alone_group(Group::Codes, s, 0) else {
+        return Err(fault(Refusal::WrongCodes, s, 0));
     };
-    let y = Third {
-        code: c.two as u8,
-        coverage: 0,
-        depth: 0,
-        description: 0,
-    };
-    let z = Third {
-        code: c.three as u8,
-        coverage: 0,
-        depth: 0,
-        description: 0,
-    };
-    let t = Row {
-        time: row.time,
-        number: row.number,
-        side: row.side,
-        thirds: [x, y, z],
-        width: row.width,
-    };
-    Step {
-        refusal: 0,
-        place: 0,
-        row: t,
-        next: c.next,
-    }
+    Ok(Step {
+        row: with_group(Group::Codes, row, codes.numbers),
+        next: codes.next,
+    })
 }
 
 // The row with coverages, depths and descriptions.
-fn with_rest(row: Row, v: Trio, d: Trio, k: Trio) -> Row
-    requires { Shown coverages (trio v) × Shown depths (trio d) × Shown descriptions (trio k) }
-    ensures { result ≡ with_rest row (trio v, (trio d, trio k)) }
+fn with_rest(row: Row, coverages: [u32; 3], depths: [u32; 3], descriptions: [u32; 3]) -> Row
+    requires { Shown Group.Coverages (three coverages) × Shown Group.Depths (three depths) × Shown Group.Descriptions (three descriptions) }
+    ensures { result ≡ with_rest row (three coverages, (three depths, three descriptions)) }
 {
-    let a = row.thirds[0];
-    let b = row.thirds[1];
-    let c = row.thirds[2];
-    let x = Third {
-        code: a.code,
-        coverage: v.one as u8,
-        depth: d.one as u16,
-        description: k.one as u8,
-    };
-    let y = Third {
-        code: b.code,
-        coverage: v.two as u8,
-        depth: d.two as u16,
-        description: k.two as u8,
-    };
-    let z = Third {
-        code: c.code,
-        coverage: v.three as u8,
-        depth: d.three as u16,
-        description: k.three as u8,
-    };
-    Row {
-        time: row.time,
-        number: row.number,
-        side: row.side,
-        thirds: [x, y, z],
-        width: row.width,
-    }
+    let row = with_group(Group::Coverages, row, coverages);
+    let row = with_group(Group::Depths, row, depths);
+    with_group(Group::Descriptions, row, descriptions)
 }
 
-fn valid_coverages(a: Third, b: Third, c: Third) -> bool
-    ensures { result ≡ all valid_coverage (a ∷ b ∷ c ∷ []) }
+fn valid_coverages(row: Row) -> bool
+    ensures { result ≡ all valid_coverage row.thirds }
 {
-    if valid_coverage(a) {
-        if valid_coverage(b) {
-            return valid_coverage(c);
-        }
-    }
-    false
+    row.thirds.iter().all(|&t| valid_coverage(t))
 }
 
-fn valid_depths(a: Third, b: Third, c: Third) -> bool
-    ensures { result ≡ all valid_depth (a ∷ b ∷ c ∷ []) }
+fn valid_depths(row: Row) -> bool
+    ensures { result ≡ all valid_depth row.thirds }
 {
-    if valid_depth(a) {
-        if valid_depth(b) {
-            return valid_depth(c);
-        }
-    }
-    false
+    row.thirds.iter().all(|&t| valid_depth(t))
 }
 
 // A number that its description forbids can be told only once all three groups are read.
-fn judged(row: Row, s: &[u8], depths: usize, next: usize) -> Step
+fn judged(row: Row, s: &[u8], depths: usize, next: usize) -> Result<Step, Fault>
     requires { next ≤ length s.now }
     ensures { Filled s.now (judged row.thirds s.now (drop depths s.now) (taken (row, drop next s.now))) result }
 {
-    let a = row.thirds[0];
-    let b = row.thirds[1];
-    let c = row.thirds[2];
-    if !valid_coverages(a, b, c) {
-        return fault(row, refusal::WRONG_COVERAGE_OR_DEPTH, s, 0);
+    if !valid_coverages(row) {
+        return Err(fault(Refusal::WrongCoverageOrDepth, s, 0));
     }
-    if !valid_depths(a, b, c) {
-        return fault(row, refusal::WRONG_COVERAGE_OR_DEPTH, s, depths);
+    if !valid_depths(row) {
+        return Err(fault(Refusal::WrongCoverageOrDepth, s, depths));
     }
-    Step {
-        refusal: 0,
-        place: 0,
-        row,
-        next,
-    }
+    Ok(Step { row, next })
 }
 
 // Coverages, depths and descriptions of a row that is taken: read once, and without the tests that their judgement implies. Where it refuses,
 // `full_fault` tells what is at fault.
-fn full_into(row: Row, s: &[u8]) -> Step
-    ensures { IfTaken s.now (full_rest row s.now) result }
+fn full_into(row: Row, s: &[u8]) -> Option<Step>
+    ensures { IfSome result (λ t. Filled s.now (full_rest row s.now) (Ok t)) }
 {
-    let v = read_group(COVERAGES, s, 0);
-    if v.fits {
-        let d = read_group(DEPTHS, s, v.next);
-        if d.fits {
-            let k = read_group(DESCRIPTIONS, s, d.next);
-            if k.fits {
-                let t = with_rest(row, v, d, k);
-                let a = t.thirds[0];
-                let b = t.thirds[1];
-                let c = t.thirds[2];
-                if valid_coverages(a, b, c) {
-                    if valid_depths(a, b, c) {
-                        return Step {
-                            refusal: 0,
-                            place: 0,
-                            row: t,
-                            next: k.next,
-                        };
-                    }
-                }
-            }
-        }
-    }
-    Step {
-        refusal: refusal::WRONG_COVERAGE_OR_DEPTH,
-        place: 0,
-        row,
-        next: 0,
+    let v = read_group(Group::Coverages, s, 0)?;
+    let d = read_group(Group::Depths, s, v.next)?;
+    let k = read_group(Group::Descriptions, s, d.next)?;
+    let row = with_rest(row, v.numbers, d.numbers, k.numbers);
+    if valid_coverages(row) && valid_depths(row) {
+        Some(Step { row, next: k.next })
+    } else {
+        None
     }
 }
 
 // The same group by group, each by itself, so that the first at fault is told.
-fn full_fault(row: Row, s: &[u8]) -> Step
+#[tactic(auto, using(crate::proofs::Steps::coverages_alone, crate::proofs::Steps::depths_alone), unfolding(crate::specs::Code::Filling::full_rest, crate::specs::Reading::description_group))]
+fn full_fault(row: Row, s: &[u8]) -> Result<Step, Fault>
     ensures { Filled s.now (full_rest row s.now) result }
 {
-    let v = alone(COVERAGES, s, 0);
-    if !v.fits {
-        return fault(row, refusal::WRONG_COVERAGE_OR_DEPTH, s, 0);
-    }
-    let d = alone(DEPTHS, s, v.next);
-    if !d.fits {
-        return fault(row, refusal::WRONG_COVERAGE_OR_DEPTH, s, v.next);
-    }
-    let k = read_group(DESCRIPTIONS, s, d.next);
-    if !k.fits {
-        return fault(row, refusal::WRONG_DESCRIPTIONS, s, d.next);
-    }
-    judged(with_rest(row, v, d, k), s, v.next, k.next)
+    let Some(v) = alone_group(Group::Coverages, s, 0) else {
+        return Err(fault(Refusal::WrongCoverageOrDepth, s, 0));
+    };
+    let Some(d) = alone_group(Group::Depths, s, v.next) else {
+        return Err(fault(Refusal::WrongCoverageOrDepth, s, v.next));
+    };
+    let Some(k) = read_group(Group::Descriptions, s, d.next) else {
+        return Err(fault(Refusal::WrongDescriptions, s, d.next));
+    };
+    let row = with_rest(row, v.numbers, d.numbers, k.numbers);
+    judged(row, s, v.next, k.next)
 }
 
 // 01 to 99 behind a gap, or 0 for none.
@@ -327,92 +276,95 @@ fn width(s: &[u8], i: usize) -> Found
     requires { i ≤ length s.now }
     ensures { HeldWidth s.now (drop i s.now) result }
 {
-    let g = word(s, i, b" ", 0);
-    if g.fits {
-        let f = digits(s, g.next, 2);
-        if f.fits {
-            if 1 <= f.value {
-                return f;
-            }
-        }
-    }
-    Found {
-        fits: true,
-        value: 0,
-        next: i,
-    }
+    word(s, i, b" ", 0)
+        .and_then(|gap| digits(s, gap.next, 2))
+        .filter(|f| 1 <= f.value)
+        .unwrap_or(Found { value: 0, next: i })
 }
+
+// Three numbers that are left out.
+const ALL_NR: [u32; 3] = [NR; 3];
 
 // Coverages, depths and descriptions, or all that is left of a short row: its descriptions with nothing but a width behind them, which is read
 // here and not again. A row whose coverages and depths fit is not short, so that the full form may be tried first.
-fn rest_into(row: Row, s: &[u8]) -> Step
-    ensures { Filled s.now (fill_group 3 row s.now) result }
+fn rest_into(row: Row, s: &[u8]) -> Result<Step, Fault>
+    ensures { Filled s.now (fill_group Part.Rest row s.now) result }
 {
-    let full = full_into(row, s);
-    if full.refusal == 0 {
-        return full;
+    if let Some(full) = full_into(row, s) {
+        return Ok(full);
     }
-    let k = read_group(DESCRIPTIONS, s, 0);
-    if k.fits {
+    if let Some(k) = read_group(Group::Descriptions, s, 0) {
         let w = width(s, k.next);
         if s.len() <= w.next {
-            let mut t = with_rest(row, NO_TRIO, NO_TRIO, k);
-            if is_short(t) {
-                t.width = w.value as u8;
-                return Step {
-                    refusal: 0,
-                    place: 0,
-                    row: t,
-                    next: w.next,
-                };
+            let t = with_rest(row, ALL_NR, ALL_NR, k.numbers);
+            if !is_short(t) {
+                return Err(fault(Refusal::WrongCoverageOrDepth, s, 0));
             }
-            return fault(row, refusal::WRONG_COVERAGE_OR_DEPTH, s, 0);
+            return Ok(Step {
+                row: Row {
+                    width: w.value as u8,
+                    ..t
+                },
+                next: w.next,
+            });
         }
     }
     full_fault(row, s)
 }
 
 // The width, and nothing behind it. Where nothing is left, there is none, or a short row has it already.
-fn width_into(row: Row, s: &[u8]) -> Step
-    ensures { Filled s.now (fill_group 4 row s.now) result }
+#[tactic(auto, unfolding(crate::specs::Code::Filling::fill_group))]
+fn width_into(row: Row, s: &[u8]) -> Result<Step, Fault>
+    ensures { Filled s.now (fill_group Part.Width row s.now) result }
 {
-    if s.len() == 0 {
-        return Step {
-            refusal: 0,
-            place: 0,
-            row,
-            next: 0,
-        };
+    if s.is_empty() {
+        return Ok(Step { row, next: 0 });
     }
-    let found = width(s, 0);
-    if s.len() <= found.next {
-        let mut row = row;
-        row.width = found.value as u8;
-        return Step {
-            refusal: 0,
-            place: 0,
-            row,
-            next: found.next,
-        };
+    let w = width(s, 0);
+    if s.len() <= w.next {
+        return Ok(Step {
+            row: Row {
+                width: w.value as u8,
+                ..row
+            },
+            next: w.next,
+        });
     }
-    if parted(s, found.next) {
-        return fault(row, refusal::WRONG_WIDTH, s, found.next);
-    }
-    fault(row, refusal::WRONG_WIDTH, s, 0)
+    // what follows it, or what is glued to it
+    let at = if parted(s, w.next) { w.next } else { 0 };
+    Err(fault(Refusal::WrongWidth, s, at))
 }
 
-const GROUPS: u8 = 5;
-
-// The groups stand in their order: time, runway, codes, coverages to descriptions, width.
-fn group_into(group: u8, row: Row, s: &[u8]) -> Step
-    ensures { Filled s.now (fill_group group row s.now) result }
+fn part_into(part: Part, row: Row, s: &[u8]) -> Result<Step, Fault>
+    ensures { Filled s.now (fill_group part row s.now) result }
 {
-    match group {
-        0 => time_into(row, s),
-        1 => runway_into(row, s),
-        2 => codes_into(row, s),
-        3 => rest_into(row, s),
-        _ => width_into(row, s),
+    match part {
+        Part::Time => time_into(row, s),
+        Part::Runway => runway_into(row, s),
+        Part::Codes => codes_into(row, s),
+        Part::Rest => rest_into(row, s),
+        Part::Width => width_into(row, s),
+    }
+}
+
+// The row that a whole line is: part by part, each in what is left of the line, and the first that is at fault refuses it.
+pub fn find_row(line: &[u8]) -> Result<Row, Fault>
+    ensures { RowFound line.now result }
+{
+    let mut row = blank_row();
+    let mut at = 0;
+    let mut parts = PARTS.iter();
+    'parts: loop {
+        let Some(&part) = parts.next() else {
+            break 'parts Ok(row);
+        };
+        match part_into(part, row, &line[at..]) {
+            Ok(step) => {
+                row = step.row;
+                at += step.next;
+            }
+            Err(fault) => break 'parts Err(fault.refusal.at(at + fault.place)),
+        }
     }
 }
 
@@ -426,76 +378,59 @@ pub struct RowRead {
     pub row: Row,
 }
 
-// The row that a whole line is: group by group, each in the part of the line that is left, and the first that is at fault refuses it.
+// The same for C: a line that is refused has a blank row.
 pub fn read_row(line: &[u8]) -> RowRead
     ensures { result ≡ row_answer line.now (find_row line.now) }
 {
-    let mut row = blank_row();
-    let mut at: usize = 0;
-    let mut group: u8 = 0;
-    let read: RowRead = 'groups: loop {
-        if GROUPS <= group {
-            break 'groups RowRead {
-                refusal: 0,
-                place: 0,
-                row,
-            };
-        }
-        let part = &line[at..];
-        let step = group_into(group, row, part);
-        if step.refusal != 0 {
-            break 'groups RowRead {
-                refusal: step.refusal,
-                place: at + step.place,
-                row: blank_row(),
-            };
-        }
-        row = step.row;
-        at += step.next;
-        group += 1;
-    };
-    read
+    match find_row(line) {
+        Ok(row) => RowRead {
+            refusal: 0,
+            place: 0,
+            row,
+        },
+        Err(fault) => RowRead {
+            refusal: fault.refusal.number(),
+            place: fault.place,
+            row: blank_row(),
+        },
+    }
 }
 
 // ---- Writing
 
 // What a third holds for each of the groups.
-fn field(kind: u8, t: Third) -> u32
-    ensures { result ≡ field kind t }
+fn field(group: Group, t: Third) -> u32
+    ensures { result ≡ field group t }
 {
-    if kind == CODES {
-        return t.code as u32;
+    match group {
+        Group::Codes => u32::from(t.code),
+        Group::Coverages => u32::from(t.coverage),
+        Group::Depths => u32::from(t.depth),
+        Group::Descriptions => u32::from(t.description),
     }
-    if kind == COVERAGES {
-        return t.coverage as u32;
-    }
-    if kind == DEPTHS {
-        return t.depth as u32;
-    }
-    t.description as u32
 }
 
 // A space and a group of the row's thirds.
-fn put_thirds(kind: u8, out: &mut [u8], at: usize, row: Row) -> usize
-    ensures { Put at (canonical (group_of kind row)) out.old out.new result }
+fn put_thirds(group: Group, out: &mut [u8], at: usize, row: Row) -> usize
+    ensures { Put at (canonical (group_of group row)) out.old out.new result }
 {
-    let a = field(kind, row.thirds[0]);
-    let b = field(kind, row.thirds[1]);
-    let c = field(kind, row.thirds[2]);
-    put_group(kind, out, at, a, b, c)
+    let numbers = row.thirds.map(|t| field(group, t));
+    put_group(group, out, at, numbers)
 }
 
 // Coverages and depths, left out of a short row.
+#[tactic(auto, unfolding(crate::specs::Text::middle_pieces))]
 fn put_middle(out: &mut [u8], at: usize, row: Row) -> usize
     ensures { Put at (canonical (middle_pieces row)) out.old out.new result }
 {
     if is_short(row) {
         return put(out, at, b"");
     }
-    let at = put_thirds(COVERAGES, out, at, row);
-    put_thirds(DEPTHS, out, at, row)
+    let at = put_thirds(Group::Coverages, out, at, row);
+    put_thirds(Group::Depths, out, at, row)
 }
 
+#[tactic(auto, unfolding(crate::specs::Text::width_pieces))]
 fn put_width(out: &mut [u8], at: usize, width: u8) -> usize
     ensures { Put at (canonical (width_pieces width)) out.old out.new result }
 {
@@ -503,7 +438,7 @@ fn put_width(out: &mut [u8], at: usize, width: u8) -> usize
         return put(out, at, b"");
     }
     let at = put(out, at, b" ");
-    put_digits(out, at, 2, width as u32)
+    put_digits(out, at, 2, u32::from(width))
 }
 
 // Puts the text of any row into the rest of a buffer, as far as that goes, and answers its length. It judges nothing: it is for rows that were
@@ -514,9 +449,9 @@ pub fn put_any_row(rest: &mut [u8], row: Row) -> usize
     let at = put_digits(rest, 0, 8, row.time);
     let at = put(rest, at, b" ");
     let at = put_runway(rest, at, row.number, row.side);
-    let at = put_thirds(CODES, rest, at, row);
+    let at = put_thirds(Group::Codes, rest, at, row);
     let at = put_middle(rest, at, row);
-    let at = put_thirds(DESCRIPTIONS, rest, at, row);
+    let at = put_thirds(Group::Descriptions, rest, at, row);
     put_width(rest, at, row.width)
 }
 
@@ -527,18 +462,14 @@ pub const LONGEST_ROW: usize = 147;
 fn row_size(row: Row) -> usize
     ensures { result ≡ length (canonical (row_pieces row)) }
 {
-    let mut none = [0; 1];
-    put_any_row(&mut none, row)
+    put_any_row(&mut [0; 1], row)
 }
 
 // The row's text fits into so many bytes: the longest is known, and only a shorter rest is measured against the text.
 fn has_room(room: usize, row: Row) -> bool
     ensures { result ≡ leb (length (canonical (row_pieces row))) room }
 {
-    if LONGEST_ROW <= room {
-        return true;
-    }
-    row_size(row) <= room
+    LONGEST_ROW <= room || row_size(row) <= room
 }
 
 // Writes the row into the rest of a buffer and answers how many bytes it filled.
@@ -546,11 +477,8 @@ fn has_room(room: usize, row: Row) -> bool
 pub fn write_row(rest: &mut [u8], row: Row) -> usize
     ensures { WroteRow (row_text row) rest.old rest.new result }
 {
-    if !valid_row(row) {
+    if !valid_row(row) || !has_room(rest.len(), row) {
         return 0;
     }
-    if has_room(rest.len(), row) {
-        return put_any_row(rest, row);
-    }
-    0
+    put_any_row(rest, row)
 }

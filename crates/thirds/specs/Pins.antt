@@ -9,7 +9,7 @@ use Rattle.text.specs.Numbers.{digits, read_digits}
 use Rattle.surface.specs.Descriptions.{not_reported, compacted_snow, dry_snow, dry_snow_on_compacted_snow, dry_snow_on_ice, frost, ice, slush, standing_water}
 use Rattle.surface.specs.Descriptions.{water_on_compacted_snow, wet, wet_ice, wet_snow, wet_snow_on_compacted_snow, wet_snow_on_ice, dry}
 use Rattle.thirds.specs.Code.Begin.{beginning}
-use Rattle.thirds.specs.Code.Held.{HeldThree, three, listed}
+use Rattle.thirds.specs.Code.Held.{HeldThree, three}
 use Rattle.thirds.specs.Groups.{description_order, measure_pieces, read_measure, read_coverage, read_description}
 use Rattle.thirds.specs.Groups.{third_pieces, read_third, highest, Three, group_pieces, read_group}
 use Rattle.thirds.specs.declared.Group.{Group}
@@ -84,7 +84,7 @@ pub record Readings : Type 0 where
   parted : map (group Codes) ("1/2/3" ∷ " 1 /2/3" ∷ " 1/ 2/3" ∷ " 1/2" ∷ " 1-2-3" ∷ []) ≡ misfit ∷ misfit ∷ misfit ∷ misfit ∷ misfit ∷ []
   -- what is answered: the numbers in an array, and the place behind them
   told : HeldThree (bytes " 1/2/3X") (group Codes " 1/2/3X") (Some (record { numbers = 1 ∷ 2 ∷ 3 ∷ []; next = 6 }))
-  arrays : (three (1 ∷ 2 ∷ 3 ∷ []) ≡ (1, 2, 3)) × (listed (1, 2, 3) ≡ 1 ∷ 2 ∷ 3 ∷ [])
+  array : three (1 ∷ 2 ∷ 3 ∷ []) ≡ (1, 2, 3)
   shown : map highest (Codes ∷ Coverages ∷ Depths ∷ Descriptions ∷ []) ≡ 9 ∷ 100 ∷ 999 ∷ dry ∷ []
 
 pub readings : Readings
@@ -99,6 +99,6 @@ readings = record {
   groups = (refl, refl, refl, refl);
   parted = refl;
   told = record { within = lit≤ tt; says = refl };
-  arrays = (refl, refl);
+  array = refl;
   shown = refl;
 }

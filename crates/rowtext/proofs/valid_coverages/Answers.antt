@@ -1,11 +1,7 @@
-use Rattle.text.specs.Laws.Tests.{tests}
+use Rattle.std.proofs.Common.{rules}
+use Rattle.text.specs.Laws.Iter.{all_each}
+use Rattle.surface.specs.Third.{blank_third, valid_coverage}
 use Rattle.rowtext.proofs.valid_coverages.Goals as goal
 
-pub returns-then-valid_coverage-2 : goal.returns-then-valid_coverage-2
-returns-then-valid_coverage-2 c = simp (← c.valid_coverage.ensures, ← c.valid_coverage-then-valid_coverage.ensures, ← c.valid_coverage-then-valid_coverage-2.ensures) (search tests)
-
-pub returns-else-valid_coverage-2 : goal.returns-else-valid_coverage-2
-returns-else-valid_coverage-2 c = simp (← c.valid_coverage.ensures, ← c.valid_coverage-then-valid_coverage.ensures) (search tests)
-
-pub returns-else-valid_coverage : goal.returns-else-valid_coverage
-returns-else-valid_coverage c = simp (← c.valid_coverage.ensures) (search tests)
+pub returns : goal.returns
+returns c = all_each valid_coverage c.args.row.thirds blank_third (search rules)

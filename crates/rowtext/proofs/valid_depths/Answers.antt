@@ -1,11 +1,7 @@
-use Rattle.text.specs.Laws.Tests.{tests}
+use Rattle.std.proofs.Common.{rules}
+use Rattle.text.specs.Laws.Iter.{all_each}
+use Rattle.surface.specs.Third.{blank_third, valid_depth}
 use Rattle.rowtext.proofs.valid_depths.Goals as goal
 
-pub returns-then-valid_depth-2 : goal.returns-then-valid_depth-2
-returns-then-valid_depth-2 c = simp (← c.valid_depth.ensures, ← c.valid_depth-then-valid_depth.ensures, ← c.valid_depth-then-valid_depth-2.ensures) (search tests)
-
-pub returns-else-valid_depth-2 : goal.returns-else-valid_depth-2
-returns-else-valid_depth-2 c = simp (← c.valid_depth.ensures, ← c.valid_depth-then-valid_depth.ensures) (search tests)
-
-pub returns-else-valid_depth : goal.returns-else-valid_depth
-returns-else-valid_depth c = simp (← c.valid_depth.ensures) (search tests)
+pub returns : goal.returns
+returns c = all_each valid_depth c.args.row.thirds blank_third (search rules)

@@ -1,27 +1,23 @@
-use mathlib.Core.Path.{sym, ◌∙◌}
-use lib.ListN.{drop_of_length-le}
+use Rattle.std.proofs.Common.{rules, drop_of_length-le, sym, ◌∙◌}
 use Rattle.rowtext.specs.Reading.{parted, width_group}
 use Rattle.rowtext.specs.Code.Filling.{fill_group}
-use Rattle.rowtext.proofs.Steps.{none_left, some_left, left_over}
-use borrow.Author.Rules.{rules}
+use Rattle.rowtext.proofs.Steps.{faulted, some_left, left_over}
 use Rattle.rowtext.proofs.width_into.Goals as goal
+use Rattle.rowtext.proofs.width_into.Goals.{then-parted, else-parted}
 
-pub returns-then-s-eq0 : goal.returns-then-s-eq0
-unfolding fill_group
-returns-then-s-eq0 c =
-    record { within = search rules; stands = search rules; says = rw (none_left c.args.s.now c.if-s-eq0.true) }
-
-pub returns-then-s-found : goal.returns-then-s-found
+pub returns-then-s-w : goal.returns-then-s-w
 unfolding fill_group width_group parted
-returns-then-s-found c =
-    record { within = c.width-found.ensures.within; stands = search rules; says = rw (some_left c.args.s.now c.if-s-eq0.false, c.width-found.ensures.says, drop_of_length-le c.args.s.now c.if-s-found.true) }
-
-pub returns-then-parted : goal.returns-then-parted
-unfolding fill_group width_group
-returns-then-parted c =
-    rw (some_left c.args.s.now c.if-s-eq0.false, c.width-found.ensures.says, sym c.parted.ensures ∙ c.if-parted.true, left_over c.args.s.now c.width-found.result.next c.if-s-found.false) c.fault.ensures
+returns-then-s-w c =
+    let m = c.args.s.now in
+    record { within = c.width-w.ensures.within; says = rw (some_left m (search rules), c.width-w.ensures.says, drop_of_length-le m c.if-s-w.true) }
 
 pub returns : goal.returns
 unfolding fill_group width_group
 returns c =
-    rw (some_left c.args.s.now c.if-s-eq0.false, c.width-found.ensures.says, sym c.parted.ensures ∙ c.if-parted.false) c.fault-2.ensures
+    let m = c.args.s.now in
+    let w = c.width-w in
+    let f = c.fault.ensures in
+    elim c.if-parted.branch [
+      | then-parted b ↦ faulted (rw b.at-is at f) (rw (some_left m (search rules), w.ensures.says, sym c.parted.ensures ∙ b.if-parted.true, left_over m w.result.next c.if-s-w.false))
+      | else-parted b ↦ faulted (rw b.at-is at f) (rw (some_left m (search rules), w.ensures.says, sym c.parted.ensures ∙ b.if-parted.false))
+    ]

@@ -1,18 +1,16 @@
-use mathlib.Core.Path.{sym, ◌∙◌}
+use Rattle.std.proofs.Common.{sym, ◌∙◌}
 use Rattle.rowtext.specs.Writing.{row_text}
 use Rattle.rowtext.proofs.Writes.{wrote_on, wrote-off, wrote_none}
 use Rattle.rowtext.proofs.write_row.Goals as goal
+use Rattle.rowtext.proofs.write_row.Goals.{then-not-valid_row-via-then-not-valid_row, then-not-valid_row-via-else-not-valid_row+then-not-has_room}
 
 pub returns-then-not-valid_row : goal.returns-then-not-valid_row
 unfolding row_text
-returns-then-not-valid_row c = rw (sym c.valid_row.ensures ∙ c.if-not-valid_row.true) (wrote_none _)
-
-pub returns-then-has_room : goal.returns-then-has_room
-unfolding row_text
-returns-then-has_room c =
-    rw (sym c.valid_row.ensures ∙ c.if-not-valid_row.false) (wrote_on (sym c.has_room.ensures ∙ c.if-has_room.true) c.put_any_row.ensures)
+returns-then-not-valid_row c = elim c.then-not-valid_row.branch [
+  | then-not-valid_row-via-then-not-valid_row w ↦ rw (sym c.valid_row.ensures ∙ w.if-not-valid_row.true) (wrote_none _)
+  | then-not-valid_row-via-else-not-valid_row+then-not-has_room w ↦ rw (sym c.valid_row.ensures ∙ w.if-not-valid_row.false) (wrote-off (sym w.has_room.ensures ∙ w.if-not-has_room.true))
+]
 
 pub returns : goal.returns
 unfolding row_text
-returns c =
-    rw (sym c.valid_row.ensures ∙ c.if-not-valid_row.false) (wrote-off (sym c.has_room.ensures ∙ c.if-has_room.false))
+returns c = rw (sym c.valid_row.ensures ∙ c.if-not-valid_row.false) (wrote_on (sym c.has_room.ensures ∙ c.if-not-has_room.false) c.put_any_row.ensures)

@@ -1,51 +1,65 @@
 -- A row that is filled group by group, as the code reads it.
-use Rattle.std.specs.Prelude.{ℕ, zero, suc, ◌<◌, ◌≤◌, ◌≡◌, List, cond, Bool, eqb, length, drop}
+use Rattle.std.specs.Prelude.{ℕ, ◌<◌, ◌≤◌, ◌≡◌, List, [], ◌∷◌, cond, Bool, true, Result, Ok, Err, MatchResult, length, drop}
 use Rattle.text.specs.Choice.{all, is_empty}
 use Rattle.text.specs.Read.{Got, got, skip, read_seq, read_if}
 use Rattle.text.specs.Out.{Out, refuse, taken, next, fit, demand}
 use Rattle.text.specs.declared.Found.{Found}
-use Rattle.text.specs.Refusals.{no_row, wrong_runway, wrong_codes, wrong_coverage_or_depth, wrong_descriptions, wrong_width}
+use Rattle.text.specs.Code.Held.{Reached}
+use Rattle.text.specs.declared.refusal.Refusal.{Refusal}
+use Rattle.text.specs.declared.refusal.Fault.{Fault}
+use Rattle.text.specs.Code.Faults.{Refused}
+use Rattle.text.specs.Refusals.{no_row, wrong_runway, wrong_codes, wrong_coverage_or_depth, wrong_descriptions, wrong_width, number}
 use Rattle.surface.specs.Third.{is_code, valid_coverage, valid_depth}
 use Rattle.surface.specs.declared.Third.{Third}
-use Rattle.thirds.specs.Groups.{Three, codes, coverages, read_group}
-use Rattle.row.specs.Row.{is_short}
+use Rattle.thirds.specs.Groups.{Three, read_group}
+use Rattle.thirds.specs.declared.Group.{Group}
+use Rattle.thirds.specs.declared.Group.TheVariants.{Codes, Coverages, Depths, Descriptions}
+use Rattle.row.specs.Row.{third_of, is_short}
 use Rattle.row.specs.declared.Row.{Row}
 use Rattle.rowtext.specs.Text.{numbers_of}
-use Rattle.rowtext.specs.Reading.{Rest, all_nr, make_thirds, read_alone, each, may_cover, may_lie, read_width, short, group}
+use Rattle.rowtext.specs.Reading.{Rest, all_nr, make_thirds, read_alone, each, may_cover, may_lie, read_width, short, group, find_row}
 use Rattle.rowtext.specs.Reading.{time_group, runway_group, code_group, coverage_group, depth_group, description_group, width_group}
+use Rattle.rowtext.specs.declared.Part.{Part}
 use Rattle.rowtext.specs.declared.Step.{Step}
 
 -- the row with one group more: its time
 abbrev pub with_time : Row → ℕ → Row
-with_time r t = record { time = t; number = r.number; side = r.side; thirds = r.thirds; width = r.width }
+with_time r t = record r { time = t }
 
 -- its runway
 abbrev pub with_runway : Row → ℕ × ℕ → Row
-with_runway r p = record { time = r.time; number = p.0; side = p.1; thirds = r.thirds; width = r.width }
+with_runway r p = record r { number = p.0; side = p.1 }
 
--- all that its thirds hold
-abbrev pub with_thirds : Row → Three → Rest → Row
-with_thirds r code rest = record { time = r.time; number = r.number; side = r.side; thirds = make_thirds code rest; width = r.width }
+-- a third with another number for one of its groups
+abbrev pub with_number : Group → Third → ℕ → Third
+with_number Codes t x = record t { code = x }
+with_number Coverages t x = record t { coverage = x }
+with_number Depths t x = record t { depth = x }
+with_number Descriptions t x = record t { description = x }
 
--- its codes, all else NR so far
-abbrev pub with_codes : Row → Three → Row
-with_codes r code = with_thirds r code (all_nr, (all_nr, all_nr))
+-- a row with its numbers of a group
+abbrev pub with_group : Group → Row → Three → Row
+with_group g r n =
+    record r { thirds = with_number g (third_of r 0) n.0 ∷ with_number g (third_of r 1) n.1 ∷ with_number g (third_of r 2) n.2 ∷ [] }
 
--- coverages, depths and descriptions beside its codes
+-- with coverages, depths and descriptions beside its codes
 abbrev pub with_rest : Row → Rest → Row
-with_rest r = with_thirds r (numbers_of codes r)
+with_rest r rest = record r { thirds = make_thirds (numbers_of Codes r) rest }
 
--- its width
+-- with its width
 abbrev pub with_width : Row → ℕ → Row
-with_width r w = record { time = r.time; number = r.number; side = r.side; thirds = r.thirds; width = w }
+with_width r w = record r { width = w }
 
 -- the test of a number of each group by itself; a description has none
-unfoldable pub may_stand : ℕ → ℕ → Bool
-may_stand kind x = cond (eqb kind codes) (is_code x) (cond (eqb kind coverages) (may_cover x) (may_lie x))
+unfoldable pub may_stand : Group → ℕ → Bool
+may_stand Codes x = is_code x
+may_stand Coverages x = may_cover x
+may_stand Depths x = may_lie x
+may_stand Descriptions x = true
 
--- a group of codes, coverages or depths by itself
-unfoldable pub alone_group : ℕ → List ℕ → Got Three
-alone_group kind = read_alone (read_if (each (may_stand kind)) (read_group kind))
+-- a group of thirds by itself
+unfoldable pub alone_group : Group → List ℕ → Got Three
+alone_group g = read_alone (read_if (each (may_stand g)) (read_group g))
 
 -- thirds whose numbers their descriptions allow; else 26 at the coverages, whose group starts at m₃, or at the depths, at m₄
 abbrev pub judged : {A : Type 0} → List Third → List ℕ → List ℕ → Out A → Out A
@@ -69,35 +83,49 @@ short_rest r m =
     let filled : Row = with_rest r (all_nr, (all_nr, p.0)) in
     demand (is_short filled.thirds) wrong_coverage_or_depth (skip m) (taken (with_width filled p.1, k)))
 
--- how many groups there are: coverages, depths and descriptions are one, since a short row has the last alone
-abbrev pub group_count : ℕ
-group_count = 5
+-- the parts of a row in their order: coverages, depths and descriptions are one, since a short row has the last alone
+abbrev pub parts : List Part
+parts = Part.Time ∷ Part.Runway ∷ Part.Codes ∷ Part.Rest ∷ Part.Width ∷ []
 
--- the group at a place, counted from 0, read into the row
-unfoldable pub fill_group : ℕ → Row → List ℕ → Out (Row × List ℕ)
-fill_group g r m =
-    cond (eqb g 0) (fit no_row m (time_group m) (λ time k. taken (with_time r time, k)))
-    (cond (eqb g 1) (group wrong_runway runway_group m (λ runway k. taken (with_runway r runway, k)))
-    (cond (eqb g 2) (group wrong_codes code_group m (λ code k. taken (with_codes r code, k)))
-    (cond (eqb g 3) (cond (short m) (short_rest r m) (full_rest r m))
-    -- nothing is left where there is no width, or where a short row has it already
-    (cond (is_empty m) (taken (r, m))
-    (group wrong_width width_group m (λ width k. demand (is_empty k) wrong_width (skip k) (taken (with_width r width, k))))))))
+-- a part read into the row
+unfoldable pub fill_group : Part → Row → List ℕ → Out (Row × List ℕ)
+fill_group Part.Time r m = fit no_row m (time_group m) (λ time k. taken (with_time r time, k))
+fill_group Part.Runway r m = group wrong_runway runway_group m (λ runway k. taken (with_runway r runway, k))
+fill_group Part.Codes r m = group wrong_codes code_group m (λ code k. taken (with_group Codes r code, k))
+fill_group Part.Rest r m = cond (short m) (short_rest r m) (full_rest r m)
+-- nothing is left where there is no width, or where a short row has it already
+fill_group Part.Width r m =
+    cond (is_empty m) (taken (r, m))
+    (group wrong_width width_group m (λ width k. demand (is_empty k) wrong_width (skip k) (taken (with_width r width, k))))
 
--- n groups from the group g on
-unfoldable pub fill_from : ℕ → ℕ → Row → List ℕ → Out (Row × List ℕ)
-fill_from zero g r m = taken (r, m)
-fill_from (suc n) g r m = next (fill_group g r m) (λ p. fill_from n (suc g) p.0 p.1)
+-- several parts, one behind the other
+unfoldable pub fill_from : List Part → Row → List ℕ → Out (Row × List ℕ)
+fill_from [] r m = taken (r, m)
+fill_from (g ∷ gs) r m = next (fill_group g r m) (λ p. fill_from gs p.0 p.1)
 
--- what the code's answer says of the reading of a group
-pub record Filled (m : List ℕ) (o : Out (Row × List ℕ)) (r : Step) : Type 0 where
-  pub within : r.next ≤ length m
-  pub stands : r.place ≤ length m
-  pub says : o ≡ cond (eqb r.refusal 0) (taken (r.row, drop r.next m)) (refuse r.refusal (drop r.place m))
+-- the place that the code's answer names: behind a group that it has read, or of a fault
+abbrev pub place_of : Result Step Fault → ℕ
+place_of (Ok s) = s.next
+place_of (Err f) = f.place
 
--- the answer to a reading of which only what is taken is told
-pub record IfTaken (m : List ℕ) (o : Out (Row × List ℕ)) (r : Step) : Type 0 where
-  pub fills : r.refusal ≡ 0 → Filled m o r
+-- what it says of the reading of a group in m
+abbrev pub answered : List ℕ → Result Step Fault → Out (Row × List ℕ)
+answered m (Ok s) = taken (s.row, drop s.next m)
+answered m (Err f) = refuse (number f.refusal) (drop f.place m)
+
+-- the answer r to the reading o of a group in m
+pub record Filled (m : List ℕ) (o : Out (Row × List ℕ)) (r : Result Step Fault) : Type 0 where
+  pub within : place_of r ≤ length m
+  pub says : o ≡ answered m r
+
+-- the answer r to the reading of a whole line
+abbrev pub RowFound : List ℕ → Result Row Fault → Type 0
+RowFound line r = MatchResult r (λ row. find_row line ≡ taken row) (Refused line (find_row line))
+
+-- the fault f of the part that k should be, an end of m: at its first byte
+pub record FaultAt (m k : List ℕ) (refusal : Refusal) (f : Fault) : Type 0 where
+  pub refused : f.refusal ≡ refusal
+  pub place : Reached m (skip k) f.place
 
 -- a width is always found: none is one
 pub record HeldWidth (m k : List ℕ) (r : Found) : Type 0 where

@@ -14,8 +14,9 @@ use Rattle.runway.specs.Runway.{is_side, valid_runway, runway_pieces}
 use Rattle.runway.specs.Laws.Runway.{runway-laws}
 use Rattle.surface.specs.Descriptions.{not_reported}
 use Rattle.surface.specs.Third.{is_code, is_coverage}
-use Rattle.thirds.specs.Groups.{Three, codes, coverages, depths, highest, group_pieces}
+use Rattle.thirds.specs.Groups.{Three, highest, group_pieces}
 use Rattle.thirds.specs.Laws.Groups.{Shown, codes-laws, coverages-laws, depths-laws}
+use Rattle.thirds.specs.declared.Group.TheVariants.{Codes, Coverages, Depths}
 use Rattle.rowtext.specs.Reading.{parted, read_alone, each, is_runway, may_cover, may_lie}
 use Rattle.rowtext.specs.Reading.{time_group, runway_group, code_group, coverage_group, depth_group}
 use Rattle.rowtext.specs.Laws.Row.{coverage-low, real-low}
@@ -88,7 +89,7 @@ each-low test most low t h =
     (low t.0 (and-1 _ _ h), low t.1 (and-1 _ _ k), low t.2 (and-2 _ _ k))
 
 -- "Codes: one digit 0 to 6"
-pub code-group : Group (λ c. each is_code c ≡ true) (group_pieces codes) code_group
+pub code-group : Group (λ c. each is_code c ≡ true) (group_pieces Codes) code_group
 unfolding code_group highest
 code-group =
     alone-group (revalid (if-laws codes-laws (each is_code)) (λ c. each is_code c ≡ true) (λ c h. h.1) (λ c h. (each-low is_code 9 low c h, h))) (λ r h. tt)
@@ -105,13 +106,13 @@ cover-low c h = go (eqb c not_reported) refl h
     go true e k = let z = eqb-true c not_reported e in omega arith
     go false e k = coverage-low c k
 
-pub coverage-group : Group (λ v. each may_cover v ≡ true) (group_pieces coverages) coverage_group
+pub coverage-group : Group (λ v. each may_cover v ≡ true) (group_pieces Coverages) coverage_group
 unfolding coverage_group highest
 coverage-group = alone-group
     (revalid (if-laws coverages-laws (each may_cover)) (λ v. each may_cover v ≡ true) (λ v h. h.1) (λ v h. (each-low may_cover 100 cover-low v h, h)))
     (parted-not is_digit refl)
 
 -- "Depth": NR, or 03 to 999
-pub depth-group : Group (λ d. Shown depths d × (each may_lie d ≡ true)) (group_pieces depths) depth_group
+pub depth-group : Group (λ d. Shown Depths d × (each may_lie d ≡ true)) (group_pieces Depths) depth_group
 unfolding depth_group
 depth-group = alone-group (if-laws depths-laws (each may_lie)) (parted-not is_digit refl)

@@ -16,8 +16,9 @@ use Rattle.runway.specs.Laws.Runway.{runway-laws}
 use Rattle.surface.specs.Descriptions.{dry}
 use Rattle.surface.specs.Third.{is_coverage, valid_coverage, valid_depth, valid_third}
 use Rattle.surface.specs.declared.Third.{Third}
-use Rattle.thirds.specs.Groups.{codes, coverages, depths, descriptions, highest, group_pieces}
+use Rattle.thirds.specs.Groups.{highest, group_pieces}
 use Rattle.thirds.specs.Laws.Groups.{Shown, codes-laws}
+use Rattle.thirds.specs.declared.Group.TheVariants.{Codes, Coverages, Depths, Descriptions}
 use Rattle.row.specs.Row.{valid_row, is_short}
 use Rattle.rowtext.specs.Text.{numbers_of, group_of, middle_pieces, width_pieces, row_pieces}
 use Rattle.rowtext.specs.Reading.{Groups, make_thirds, make_row}
@@ -28,13 +29,13 @@ use Rattle.rowtext.specs.Laws.Tail.{Valid, formed, rest-laws, width-laws}
 
 -- what the groups alone ask
 abbrev Weak : Groups → Type 0
-Weak g = (g.0 < 10 ^ 8) × (((g.1.0.0 < 10 ^ 2) × (g.1.0.1 ≤ 3)) × (Shown codes g.1.1.0 × (Valid g.1.1.1.0 × (g.1.1.1.1 < 100))))
+Weak g = (g.0 < 10 ^ 8) × (((g.1.0.0 < 10 ^ 2) × (g.1.0.1 ≤ 3)) × (Shown Codes g.1.1.0 × (Valid g.1.1.1.0 × (g.1.1.1.1 < 100))))
 
 -- and their text
 abbrev groups : Groups → List Piece
 groups g =
     let (time, ((number, side), (code, (rest, width)))) = g in
-    digits 8 time ++ ((gap ∷ runway_pieces number side) ++ (group_pieces codes code ++ (formed (is_short (make_thirds code rest)) rest ++ width_pieces width)))
+    digits 8 time ++ ((gap ∷ runway_pieces number side) ++ (group_pieces Codes code ++ (formed (is_short (make_thirds code rest)) rest ++ width_pieces width)))
 
 groups-laws : Laws Weak groups read_groups (Head is_digit) Ends
 groups-laws = seq-laws (digits-laws 7)
@@ -44,14 +45,14 @@ groups-laws = seq-laws (digits-laws 7)
     (λ m h. tt)
 
 abbrev take_row : Row → Groups
-take_row r = (r.time, ((r.number, r.side), (numbers_of codes r, ((numbers_of coverages r, (numbers_of depths r, numbers_of descriptions r)), r.width))))
+take_row r = (r.time, ((r.number, r.side), (numbers_of Codes r, ((numbers_of Coverages r, (numbers_of Depths r, numbers_of Descriptions r)), r.width))))
 
 -- what a valid third holds can be shown
 record Showable (t : Third) : Type 0 where
-  code : t.code ≤ highest codes
-  coverage : t.coverage ≤ highest coverages
-  depth : t.depth ≤ highest depths
-  description : t.description ≤ highest descriptions
+  code : t.code ≤ highest Codes
+  coverage : t.coverage ≤ highest Coverages
+  depth : t.depth ≤ highest Depths
+  description : t.description ≤ highest Descriptions
 
 pub coverage-low : (c : ℕ) → is_coverage c ≡ true → c ≤ 100
 unfolding is_coverage ◌and◌
@@ -96,27 +97,27 @@ valid-row r h =
     let a = t.one in
     let b = t.two in
     let c = t.three in
-    let codes-shown : Shown codes (numbers_of codes r) = (a.code, b.code, c.code) in
-    let rest-shown : Valid (numbers_of coverages r, (numbers_of depths r, numbers_of descriptions r)) =
+    let codes-shown : Shown Codes (numbers_of Codes r) = (a.code, b.code, c.code) in
+    let rest-shown : Valid (numbers_of Coverages r, (numbers_of Depths r, numbers_of Descriptions r)) =
     ((a.coverage, b.coverage, c.coverage), ((a.depth, b.depth, c.depth), (a.description, b.description, c.description))) in
     let whole : make_row (take_row r) ≡ r = λ i. record { time = r.time; number = r.number; side = r.side; thirds = t.all3 i; width = r.width } in
     (((real-low r.time (and-1 _ _ h), ((omega arith, s), (codes-shown, (rest-shown, omega arith)))), whole), h)
 
 -- the groups' text is the row's
 formed-is : (r : Row) (b : Bool) (w : List Piece) → formed b (take_row r).1.1.1.0 ++ w
-    ≡ cond b (nr_groups ∷ []) (group_of coverages r ++ group_of depths r) ++ (group_of descriptions r ++ w)
+    ≡ cond b (nr_groups ∷ []) (group_of Coverages r ++ group_of Depths r) ++ (group_of Descriptions r ++ w)
 formed-is r true w = refl
 formed-is r false w =
-    let a = group_of coverages r in
-    let b = group_of depths r in
-    let d = group_of descriptions r in
+    let a = group_of Coverages r in
+    let b = group_of Depths r in
+    let d = group_of Descriptions r in
     ap (λ (q : List Piece). q ++ w) (sym (append_assoc a b d)) ∙ append_assoc (a ++ b) d w
 
 groups-are : (r : Row) → make_row (take_row r) ≡ r → groups (take_row r) ≡ row_pieces r
 unfolding row_pieces middle_pieces
 groups-are r e =
     let w = width_pieces r.width in
-    ap (λ (x : List Piece). digits 8 r.time ++ (gap ∷ (runway_pieces r.number r.side ++ (group_of codes r ++ x))))
+    ap (λ (x : List Piece). digits 8 r.time ++ (gap ∷ (runway_pieces r.number r.side ++ (group_of Codes r ++ x))))
     (ap (λ (q : Row). formed (is_short q.thirds) (take_row r).1.1.1.0 ++ w) e ∙ formed-is r (is_short r.thirds) w)
 
 pub row_laws : Laws (λ r. valid_row r ≡ true) row_pieces read_row (Head is_digit) Ends

@@ -17,8 +17,10 @@ use Rattle.text.specs.Laws.Left.{gap-skip}
 use Rattle.runway.specs.Time.{real_time}
 use Rattle.runway.specs.Runway.{read_runway}
 use Rattle.surface.specs.Third.{is_code, valid_coverage, valid_depth}
-use Rattle.thirds.specs.Groups.{Three, codes, coverages, depths, descriptions, read_group}
+use Rattle.thirds.specs.Groups.{Three, read_group}
 use Rattle.thirds.specs.Laws.Groups.{Shown, descriptions-laws}
+use Rattle.thirds.specs.declared.Group.{Group}
+use Rattle.thirds.specs.declared.Group.TheVariants.{Codes, Coverages, Depths, Descriptions}
 use Rattle.row.specs.Row.{valid_row, is_short}
 use Rattle.rowtext.specs.Reading.{Rest, all_nr, make_thirds, make_row, read_width, parted, each, is_runway, may_cover, may_lie}
 use Rattle.rowtext.specs.Reading.{time_group, runway_group, code_group, coverage_group, depth_group, description_group, width_group}
@@ -101,9 +103,9 @@ unfolding parted
 gap-glued f [] h = true-false h
 gap-glued f (x ∷ m) h = rw (text-off 32 [] (x ∷ m) (ne_eqb 32 x (λ e. eqb-false x 32 h (sym e))))
 
-pub group-glued : (kind : ℕ) (m : List ℕ) → parted m ≡ false → read_group kind m ≡ misfit
+pub group-glued : (g : Group) (m : List ℕ) → parted m ≡ false → read_group g m ≡ misfit
 unfolding read_group
-group-glued kind m h = gap-glued _ m h
+group-glued g m h = gap-glued _ m h
 
 -- the row that groups make, judged once all are read and nothing is left
 judge : Row → List ℕ → Got Row
@@ -133,7 +135,7 @@ from_rest : Three → (Rest → ℕ → Row) → List ℕ → Got Row
 from_rest code row m = and_then (read_rest code m) (λ rest r. from_width row rest r)
 
 from_codes : ℕ → ℕ × ℕ → List ℕ → Got Row
-from_codes t p m = and_then (read_group codes m) (λ c r. from_rest c (made t p c) r)
+from_codes t p m = and_then (read_group Codes m) (λ c r. from_rest c (made t p c) r)
 
 from_runway : ℕ → List ℕ → Got Row
 from_runway t m = and_then (read_gap read_runway m) (λ p r. from_codes t p r)
@@ -148,7 +150,7 @@ module _ (f : List ℕ → Got ℕ) (g : List ℕ → Got (ℕ × ℕ)) (h : Lis
 
 row-flat : (line : List ℕ) → whole_row line ≡ and_then (read_digits 8 line) (λ t r. from_runway t r)
 unfolding read_row from_width from_rest from_codes from_runway
-row-flat line = flat (read_digits 8) (read_gap read_runway) (read_group codes) read_rest read_width line
+row-flat line = flat (read_digits 8) (read_gap read_runway) (read_group Codes) read_rest read_width line
 
 -- the width, and what follows
 judge-glued : (q : Row) (r : List ℕ) → parted r ≡ false → judge q r ≡ misfit
@@ -176,30 +178,30 @@ pub record Brief (m : List ℕ) : Type 0 where
   pub description : Three
   pub rest : List ℕ
   pub width : ℕ
-  pub first : read_group descriptions m ≡ got description rest
+  pub first : read_group Descriptions m ≡ got description rest
   pub second : read_width rest ≡ got width []
 
 pub short_has : (m : List ℕ) → short m ≡ true → Brief m
 unfolding short
-short_has m h = go (read_group descriptions m) refl h
+short_has m h = go (read_group Descriptions m) refl h
   where
-    two : (s : Three) (r : List ℕ) → read_group descriptions m ≡ got s r → (g : Got ℕ) → read_width r ≡ g
+    two : (s : Three) (r : List ℕ) → read_group Descriptions m ≡ got s r → (g : Got ℕ) → read_width r ≡ g
         → is_got {A = Three × ℕ} (whole (and_then g (λ w k. got (s, w) k))) ≡ true → Brief m
     two s r e misfit f k = true-false (sym k)
     two s r e (got w []) f k = record { description = s; rest = r; width = w; first = e; second = f }
     two s r e (got w (x ∷ q)) f k = true-false (sym k)
 
-    go : (g : Got Three) → read_group descriptions m ≡ g
+    go : (g : Got Three) → read_group Descriptions m ≡ g
         → is_got {A = Three × ℕ} (whole (and_then g (λ s r. and_then (read_width r) (λ w k. got (s, w) k)))) ≡ true → Brief m
     go misfit e k = true-false (sym k)
     go (got s r) e k = two s r e (read_width r) refl k
 
-pub short-is : (m : List ℕ) {s : Three} {r : List ℕ} {w : ℕ} → read_group descriptions m ≡ got s r → read_width r ≡ got w [] → short m ≡ true
+pub short-is : (m : List ℕ) {s : Three} {r : List ℕ} {w : ℕ} → read_group Descriptions m ≡ got s r → read_width r ≡ got w [] → short m ≡ true
 unfolding short
 short-is m e f = rw (e, f)
 
 -- behind the descriptions of a short row no depths stand
-pub no-depth : (m : List ℕ) (b : Brief m) → read_group depths b.rest ≡ misfit
+pub no-depth : (m : List ℕ) (b : Brief m) → read_group Depths b.rest ≡ misfit
 no-depth m b = let x = width-laws.sound b.second in (width-laws.starts b.width x.0 x.1 refl).1
 
 flat-three : (f g h : List ℕ → Got Three) (m : List ℕ) (j : Rest → List ℕ → Got Row)
@@ -215,32 +217,32 @@ flat-short f test m j = simp then-then
 module _ (t : ℕ) (p : ℕ × ℕ) (c : Three) (real : real_time t ≡ true) (known : is_runway p ≡ true) (coded : each is_code c ≡ true) where
   full-same : (m : List ℕ) → forget (behind_codes false c (made t p c) m) ≡ and_then (read_full m) (λ rest r. from_width (made t p c) rest r)
   unfolding coverage_group depth_group description_group read_full
-  full-same m = group-step wrong_coverage_or_depth (skip m) (read_group coverages m) (each may_cover) _ _
-      (λ v m₄ e₄ h₄ q₄. group-step wrong_coverage_or_depth (skip m₄) (read_group depths m₄) (each may_lie) _ _
-      (λ d m₅ e₅ h₅ q₅. fit-step wrong_descriptions (skip m₅) (read_group descriptions m₅) _ _
+  full-same m = group-step wrong_coverage_or_depth (skip m) (read_group Coverages m) (each may_cover) _ _
+      (λ v m₄ e₄ h₄ q₄. group-step wrong_coverage_or_depth (skip m₄) (read_group Depths m₄) (each may_lie) _ _
+      (λ d m₅ e₅ h₅ q₅. fit-step wrong_descriptions (skip m₅) (read_group Descriptions m₅) _ _
       (λ s m₆ e₆. demand-step (all valid_coverage (make_thirds c (v, (d, s)))) wrong_coverage_or_depth (skip m) _ _
       (λ a. demand-step (all valid_depth (make_thirds c (v, (d, s)))) wrong_coverage_or_depth (skip m₄) _ _
       (λ b. width_same (made t p c) (v, (d, s)) m₆ (λ w l. row-valid t p c v d s w real known coded (descriptions-laws.sound e₆).0 a b l))
       (λ b. width-none (made t p c) (v, (d, s)) m₆ (λ w h. true-false (sym (row-parts t p c v d s w h).thirds.lies ∙ b))))
       (λ a. width-none (made t p c) (v, (d, s)) m₆ (λ w h. true-false (sym (row-parts t p c v d s w h).thirds.covers ∙ a)))))
-      (λ d m₅ e₅ off. then-none (read_group descriptions m₅) (λ s m₆ e₆.
+      (λ d m₅ e₅ off. then-none (read_group Descriptions m₅) (λ s m₆ e₆.
       width-none (made t p c) (v, (d, s)) m₆ (λ w h. true-false (sym (row-parts t p c v d s w h).thirds.depths ∙ off))))
-      (λ d m₅ e₅ off. rw (group-glued descriptions m₅ off)))
-      (λ v m₄ e₄ off. then-none (read_group depths m₄) (λ d m₅ e₅. then-none (read_group descriptions m₅) (λ s m₆ e₆.
+      (λ d m₅ e₅ off. rw (group-glued Descriptions m₅ off)))
+      (λ v m₄ e₄ off. then-none (read_group Depths m₄) (λ d m₅ e₅. then-none (read_group Descriptions m₅) (λ s m₆ e₆.
       width-none (made t p c) (v, (d, s)) m₆ (λ w h. true-false (sym (row-parts t p c v d s w h).thirds.coverages ∙ off)))))
-      (λ v m₄ e₄ off. rw (group-glued depths m₄ off))
-      ∙ sym (flat-three (read_group coverages) (read_group depths) (read_group descriptions) m (from_width (made t p c)))
+      (λ v m₄ e₄ off. rw (group-glued Depths m₄ off))
+      ∙ sym (flat-three (read_group Coverages) (read_group Depths) (read_group Descriptions) m (from_width (made t p c)))
 
   short-same : (m : List ℕ) → forget (behind_codes true c (made t p c) m) ≡ and_then (read_short c m) (λ rest r. from_width (made t p c) rest r)
   unfolding description_group read_short
-  short-same m = fit-step wrong_descriptions (skip m) (read_group descriptions m) _ _
+  short-same m = fit-step wrong_descriptions (skip m) (read_group Descriptions m) _ _
       (λ s k e. go s k (descriptions-laws.sound e).0 (is_short (make_thirds c (all_nr, (all_nr, s)))))
-      ∙ sym (flat-short (read_group descriptions) (λ rest. is_short (make_thirds c rest)) m (from_width (made t p c)))
+      ∙ sym (flat-short (read_group Descriptions) (λ rest. is_short (make_thirds c rest)) m (from_width (made t p c)))
     where
       ended : Three → List ℕ → Out Row
       ended s k = group wrong_width width_group k (λ w r. demand (is_empty r) wrong_width (skip r) (taken (made t p c (all_nr, (all_nr, s)) w)))
 
-      go : (s : Three) (k : List ℕ) → Shown descriptions s → (b : Bool)
+      go : (s : Three) (k : List ℕ) → Shown Descriptions s → (b : Bool)
           → forget (demand b wrong_coverage_or_depth (skip m)
           (demand (all valid_coverage (make_thirds c (all_nr, (all_nr, s)))) wrong_coverage_or_depth (skip m)
           (demand (all valid_depth (make_thirds c (all_nr, (all_nr, s)))) wrong_coverage_or_depth (skip m) (ended s k))))
@@ -252,15 +254,15 @@ module _ (t : ℕ) (p : ℕ × ℕ) (c : Three) (real : real_time t ≡ true) (k
   -- the short form of a row that is not short leaves something
   short-off : (m : List ℕ) → short m ≡ false → and_then (read_short c m) (λ rest r. from_width (made t p c) rest r) ≡ misfit
   unfolding read_short from_width
-  short-off m off = flat-short (read_group descriptions) (λ rest. is_short (make_thirds c rest)) m (from_width (made t p c))
-      ∙ then-none (read_group descriptions m) (λ s r e. go s r e (is_short (make_thirds c (all_nr, (all_nr, s)))))
+  short-off m off = flat-short (read_group Descriptions) (λ rest. is_short (make_thirds c rest)) m (from_width (made t p c))
+      ∙ then-none (read_group Descriptions m) (λ s r e. go s r e (is_short (make_thirds c (all_nr, (all_nr, s)))))
     where
-      left : (s : Three) (r : List ℕ) → read_group descriptions m ≡ got s r → (w : ℕ) (k : List ℕ) → read_width r ≡ got w k
+      left : (s : Three) (r : List ℕ) → read_group Descriptions m ≡ got s r → (w : ℕ) (k : List ℕ) → read_width r ≡ got w k
           → judge (made t p c (all_nr, (all_nr, s)) w) k ≡ misfit
       left s r e w [] f = true-false (sym (short-is m e f) ∙ off)
       left s r e w (x ∷ k) f = judge-more (made t p c (all_nr, (all_nr, s)) w) x k
 
-      go : (s : Three) (r : List ℕ) → read_group descriptions m ≡ got s r → (b : Bool)
+      go : (s : Three) (r : List ℕ) → read_group Descriptions m ≡ got s r → (b : Bool)
           → and_then (guard b (got (all_nr, (all_nr, s)) r)) (λ rest r. from_width (made t p c) rest r) ≡ misfit
       go s r e true = then-none (read_width r) (λ w k f. left s r e w k f)
       go s r e false = refl
@@ -285,24 +287,24 @@ rest-none c row m off = then-none (read_rest c m) (λ rest r e. width-none row r
 
 rest-glued : (c : Three) (row : Rest → ℕ → Row) (m : List ℕ) → parted m ≡ false → from_rest c row m ≡ misfit
 unfolding from_rest read_full read_short
-rest-glued c row m h = rw (group-glued coverages m h, group-glued descriptions m h)
+rest-glued c row m h = rw (group-glued Coverages m h, group-glued Descriptions m h)
 
 codes-none : (t : ℕ) (p : ℕ × ℕ) (m : List ℕ) → ((c : Three) (rest : Rest) (w : ℕ) → valid_row (made t p c rest w) ≡ true → ⊥) → from_codes t p m ≡ misfit
 unfolding from_codes
-codes-none t p m off = then-none (read_group codes m) (λ c r e. rest-none c (made t p c) r (off c))
+codes-none t p m off = then-none (read_group Codes m) (λ c r e. rest-none c (made t p c) r (off c))
 
 -- "Which messages are accepted stays": a line is taken exactly if it is a row, as that row
 pub row_same : (line : List ℕ) → forget (find_row line) ≡ whole_row line
 unfolding find_row time_group runway_group code_group from_runway from_codes made
 row_same line = group-step no_row line (read_digits 8 line) real_time _ _
     (λ t m₁ e₁ real q₁. group-step wrong_runway (skip m₁) (read_gap read_runway m₁) is_runway _ _
-    (λ p m₂ e₂ known q₂. group-step wrong_codes (skip m₂) (read_group codes m₂) (each is_code) _ _
+    (λ p m₂ e₂ known q₂. group-step wrong_codes (skip m₂) (read_group Codes m₂) (each is_code) _ _
     (λ c m₃ e₃ coded q₃. behind-same t p c real known coded m₃)
     (λ c m₃ e₃ off. rest-none c (made t p c) m₃ (λ rest w h.
     true-false (sym (row-parts t p c rest.0 rest.1.0 rest.1.1 w h).thirds.codes ∙ off)))
     (λ c m₃ e₃ off. rest-glued c (made t p c) m₃ off))
     (λ p m₂ e₂ off. codes-none t p m₂ (λ c rest w h. true-false (sym (row-parts t p c rest.0 rest.1.0 rest.1.1 w h).runway ∙ off)))
-    (λ p m₂ e₂ off. rw (group-glued codes m₂ off)))
+    (λ p m₂ e₂ off. rw (group-glued Codes m₂ off)))
     (λ t m₁ e₁ off. then-none (read_gap read_runway m₁) (λ p m₂ e₂. codes-none t p m₂ (λ c rest w h.
     true-false (sym (row-parts t p c rest.0 rest.1.0 rest.1.1 w h).time ∙ off))))
     (λ t m₁ e₁ off. rw (gap-glued read_runway m₁ off))
@@ -339,7 +341,7 @@ module _ (P : Row → Type 0) where
       → from_codes t p m ≡ got r s → P r
   unfolding from_codes from_rest
   codes_all t p m h e =
-      let c = then-got (read_group codes m) e in
+      let c = then-got (read_group Codes m) e in
       let d = then-got (read_rest c.val c.mid) c.two in
       width-all (made t p c.val) d.val d.mid (h c.val d.val) d.two
 

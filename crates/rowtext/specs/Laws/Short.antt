@@ -10,8 +10,10 @@ use Rattle.text.specs.Laws.Base.{true-false, no-misfit, then-got, guard-got, and
 use Rattle.text.specs.Laws.Out.{fit-took}
 use Rattle.surface.specs.Third.{valid_coverage, valid_depth}
 use Rattle.surface.specs.declared.Third.{Third}
-use Rattle.thirds.specs.Groups.{Three, coverages, depths, descriptions, read_group}
+use Rattle.thirds.specs.Groups.{Three, read_group}
 use Rattle.thirds.specs.Laws.Alike.{coverages-descriptions}
+use Rattle.thirds.specs.declared.Group.{Group}
+use Rattle.thirds.specs.declared.Group.TheVariants.{Coverages, Depths, Descriptions}
 use Rattle.row.specs.Row.{third_of, is_short}
 use Rattle.row.specs.declared.Row.{Row}
 use Rattle.rowtext.specs.Reading.{all_nr, parted, each, may_cover, may_lie, read_width}
@@ -37,8 +39,8 @@ full-long m {v} {d} {k} {l} e f = go (short m) refl
     go false q = refl
     go true q =
         let b = short_has m q in
-        let same = coverages-descriptions.same (alone-got (read_group coverages m) (each may_cover) e) b.first in
-        no-misfit (sym (no-depth m b) ∙ ap (read_group depths) (sym same) ∙ alone-got (read_group depths k) (each may_lie) f)
+        let same = coverages-descriptions.same (alone-got (read_group Coverages m) (each may_cover) e) b.first in
+        no-misfit (sym (no-depth m b) ∙ ap (read_group Depths) (sym same) ∙ alone-got (read_group Depths k) (each may_lie) f)
 
 -- a row that is taken in full is not short
 pub full-took : (r : Row) (m : List ℕ) {p : Row × List ℕ} → full_rest r m ≡ taken p → short m ≡ false
@@ -57,18 +59,17 @@ all-may valid may of is x y z h =
     and_i (is x (and-1 (valid x) _ h)) (and_i (is y (and-1 (valid y) _ k)) (is z (and-1 (valid z) _ l)))
 
 -- a group is parted from what stands before it
-group-parted : (kind : ℕ) (m : List ℕ) {t : Three} {r : List ℕ} → read_group kind m ≡ got t r → parted m ≡ true
-group-parted kind m {t} {r} e = go (parted m) refl
+group-parted : (g : Group) (m : List ℕ) {t : Three} {r : List ℕ} → read_group g m ≡ got t r → parted m ≡ true
+group-parted g m {t} {r} e = go (parted m) refl
   where
     go : (b : Bool) → parted m ≡ b → b ≡ true
     go true q = refl
-    go false q = no-misfit (sym (group-glued kind m q) ∙ e)
+    go false q = no-misfit (sym (group-glued g m q) ∙ e)
 
 -- so three groups one behind the other whose numbers are allowed are coverages, depths and descriptions
 pub full_is : (r filled : Row) (m : List ℕ) {v d s : Three} {k l n : List ℕ}
-    → read_group coverages m ≡ got v k → read_group depths k ≡ got d l → read_group descriptions l ≡ got s n → filled ≡ with_rest r (v, (d, s))
-    → all valid_coverage (third_of filled 0 ∷ third_of filled 1 ∷ third_of filled 2 ∷ []) ≡ true
-    → all valid_depth (third_of filled 0 ∷ third_of filled 1 ∷ third_of filled 2 ∷ []) ≡ true
+    → read_group Coverages m ≡ got v k → read_group Depths k ≡ got d l → read_group Descriptions l ≡ got s n → filled ≡ with_rest r (v, (d, s))
+    → all valid_coverage filled.thirds ≡ true → all valid_depth filled.thirds ≡ true
     → full_rest r m ≡ taken (filled, n)
 unfolding full_rest coverage_group depth_group description_group
 full_is r filled m {v} {d} {s} {k} {l} {n} e f g h a b =
@@ -77,14 +78,14 @@ full_is r filled m {v} {d} {s} {k} {l} {n} e f g h a b =
     let b₁ = rw h at b in
     let x = all-may valid_coverage may_cover (λ t. t.coverage) cover-may (third_of t 0) (third_of t 1) (third_of t 2) a₁ in
     let y = all-may valid_depth may_lie (λ t. t.depth) depth-may (third_of t 0) (third_of t 1) (third_of t 2) b₁ in
-    rw (e, x, group-parted depths k f, f, y, group-parted descriptions l g, g, a₁, b₁, h)
+    rw (e, x, group-parted Depths k f, f, y, group-parted Descriptions l g, g, a₁, b₁, h)
 
 -- a row whose descriptions do not fit, or have more than a width behind them, is not short
-pub short_none : (m : List ℕ) → read_group descriptions m ≡ misfit → short m ≡ false
+pub short_none : (m : List ℕ) → read_group Descriptions m ≡ misfit → short m ≡ false
 unfolding short
 short_none m e = rw e
 
-pub short-more : (m : List ℕ) {s : Three} {w : ℕ} {k l : List ℕ} → read_group descriptions m ≡ got s k → read_width k ≡ got w l → is_empty l ≡ false
+pub short-more : (m : List ℕ) {s : Three} {w : ℕ} {k l : List ℕ} → read_group Descriptions m ≡ got s k → read_width k ≡ got w l → is_empty l ≡ false
     → short m ≡ false
 unfolding short
 short-more m {s} {w} {k} {l} e f h = rw (e, f) (go l h)
@@ -94,7 +95,7 @@ short-more m {s} {w} {k} {l} e f h = rw (e, f) (go l h)
     go (x ∷ l) h = refl
 
 -- so a short row is taken where that is allowed
-pub short-filled : (r filled : Row) (m : List ℕ) {s : Three} {w : ℕ} {k : List ℕ} → read_group descriptions m ≡ got s k → read_width k ≡ got w []
+pub short-filled : (r filled : Row) (m : List ℕ) {s : Three} {w : ℕ} {k : List ℕ} → read_group Descriptions m ≡ got s k → read_width k ≡ got w []
     → filled ≡ with_rest r (all_nr, (all_nr, s))
     → cond (short m) (short_rest r m) (full_rest r m) ≡ demand (is_short filled.thirds) wrong_coverage_or_depth (skip m) (taken (with_width filled w, []))
 unfolding short_rest description_group

@@ -18,34 +18,35 @@ use Rattle.text.proofs.Laws.Combine.{gap-laws}
 use Rattle.text.specs.Laws.Numbers.{digits-laws, digit-stops}
 use Rattle.text.specs.Laws.Names.{word_next}
 use Rattle.text.specs.Laws.Lines.{Ends}
-use Rattle.thirds.specs.Groups.{Three, coverages, depths, descriptions, measure_pieces, read_measure, third_pieces, read_third, read_three, highest, group_pieces}
+use Rattle.thirds.specs.Groups.{Three, measure_pieces, read_measure, third_pieces, read_third, read_three, highest, group_pieces}
 use Rattle.thirds.specs.Groups.{read_group}
 use Rattle.thirds.specs.Laws.Groups.{Shown, coverages-laws, depths-laws, descriptions-laws, letter-name}
 use Rattle.thirds.specs.Laws.Alike.{coverages-descriptions}
+use Rattle.thirds.specs.declared.Group.TheVariants.{Coverages, Depths, Descriptions}
 use Rattle.row.specs.Row.{is_bare, is_short}
 use Rattle.rowtext.specs.Text.{width_pieces}
 use Rattle.rowtext.specs.Reading.{Rest, all_nr, make_thirds, read_width}
 use Rattle.rowtext.specs.Laws.Whole.{read_full, read_short, read_rest}
 
 -- where the descriptions stand and no depths come behind them, the full form does not fit
-pub full-misfit : (m : List ℕ) {k : Three} {r : List ℕ} → read_group descriptions m ≡ got k r → read_group depths r ≡ misfit → read_full m ≡ misfit
+pub full-misfit : (m : List ℕ) {k : Three} {r : List ℕ} → read_group Descriptions m ≡ got k r → read_group Depths r ≡ misfit → read_full m ≡ misfit
 unfolding read_full
-full-misfit m {k} {r} e d = go (read_group coverages m) refl
+full-misfit m {k} {r} e d = go (read_group Coverages m) refl
   where
-    go : (g : Got Three) → read_group coverages m ≡ g → read_full m ≡ misfit
+    go : (g : Got Three) → read_group Coverages m ≡ g → read_full m ≡ misfit
     go misfit f = rw f
     go (got c n) f = rw (f, coverages-descriptions.same f e, d)
 
 -- the numbers can be shown
 abbrev pub Valid : Rest → Type 0
-Valid t = Shown coverages t.0 × (Shown depths t.1.0 × Shown descriptions t.1.1)
+Valid t = Shown Coverages t.0 × (Shown Depths t.1.0 × Shown Descriptions t.1.1)
 
 abbrev full : Rest → List Piece
-full t = group_pieces coverages t.0 ++ (group_pieces depths t.1.0 ++ group_pieces descriptions t.1.1)
+full t = group_pieces Coverages t.0 ++ (group_pieces Depths t.1.0 ++ group_pieces Descriptions t.1.1)
 
 -- the text of the full form, or that of the short one
 abbrev pub formed : Bool → Rest → List Piece
-formed short t = cond short (nr_groups ∷ group_pieces descriptions t.1.1) (full t)
+formed short t = cond short (nr_groups ∷ group_pieces Descriptions t.1.1) (full t)
 
 full-laws : Laws Valid full read_full (Gap (Head is_name)) (λ r. word_next r ≡ false)
 unfolding read_full
@@ -55,13 +56,13 @@ full-laws = seq-laws coverages-laws (seq-laws depths-laws descriptions-laws (λ 
 abbrev bare : Three → Rest
 bare k = (all_nr, (all_nr, k))
 
-bare-valid : (k : Three) → Shown descriptions k → Valid (bare k)
+bare-valid : (k : Three) → Shown Descriptions k → Valid (bare k)
 unfolding highest
 bare-valid k h = ((lit≤ tt, lit≤ tt, lit≤ tt), ((lit≤ tt, lit≤ tt, lit≤ tt), h))
 
 -- what may follow a row's descriptions: no word, and no group of depths
 abbrev pub Behind : List ℕ → Type 0
-Behind r = (word_next r ≡ false) × (read_group depths r ≡ misfit)
+Behind r = (word_next r ≡ false) × (read_group Depths r ≡ misfit)
 
 module _ (code : Three) where
   abbrev brief : Rest → Bool
@@ -80,13 +81,13 @@ module _ (code : Three) where
       λ i. ((p.0 i, q.0 i, r.0 i), ((p.1 i, q.1 i, r.1 i), t.1.1))
 
   -- the full text of a short row is its short text under freedom (d), and back
-  typed-out : (k : Three) {m r : List ℕ} → Typed (full (bare k)) m r → Typed (nr_groups ∷ group_pieces descriptions k) m r
+  typed-out : (k : Three) {m r : List ℕ} → Typed (full (bare k)) m r → Typed (nr_groups ∷ group_pieces Descriptions k) m r
   unfolding third_pieces measure_pieces spell
   typed-out k t =
       let a = cut nr_text t in
       nr_written a.left a.right
 
-  typed-in : (k : Three) {m r n : List ℕ} → Typed nr_text m n → Typed (group_pieces descriptions k) n r → Typed (full (bare k)) m r
+  typed-in : (k : Three) {m r n : List ℕ} → Typed nr_text m n → Typed (group_pieces Descriptions k) n r → Typed (full (bare k)) m r
   unfolding third_pieces measure_pieces spell
   typed-in k a b = join a b
 
@@ -94,7 +95,7 @@ module _ (code : Three) where
   rest-full t true q {m} {r} x = typed-out t.1.1 (subst (λ u. Typed (full u) m r) (short-bare t q) x)
   rest-full t false q x = x
 
-  short-laws : Laws (λ t. Valid t × (brief t ≡ true)) (λ t. group_pieces descriptions t.1.1) (read_short code) (Gap (Head is_letter)) (λ r. word_next r ≡ false)
+  short-laws : Laws (λ t. Valid t × (brief t ≡ true)) (λ t. group_pieces Descriptions t.1.1) (read_short code) (Gap (Head is_letter)) (λ r. word_next r ≡ false)
   unfolding read_short
   short-laws = revalid (if-laws (as-laws descriptions-laws (λ t. Valid t × (t ≡ bare t.1.1)) bare (λ t. t.1.1)
       (λ k h. ((bare-valid k h, refl), refl))
@@ -143,17 +144,17 @@ three-off : (m : List ℕ) {w : ℕ} {r : List ℕ} → read_digits 2 m ≡ got 
 unfolding read_digits
 three-off m {w} {r} e h = rw (e, digit-stops r h)
 
-depth-two : (m : List ℕ) {w : ℕ} {r : List ℕ} → read_digits 2 m ≡ got w r → head_is is_digit r ≡ false → read_third depths m ≡ guard (leb 1 w) (got w r)
+depth-two : (m : List ℕ) {w : ℕ} {r : List ℕ} → read_digits 2 m ≡ got w r → head_is is_digit r ≡ false → read_third Depths m ≡ guard (leb 1 w) (got w r)
 unfolding read_third read_measure
 depth-two m {w} {r} e h =
     let x = (digits-laws 1).sound e in
     let n = text-off 78 (82 ∷ []) m (head-off is_digit 78 refl m ((digits-laws 1).starts w x.0 x.1 tt)) in
     rw (n, three-off m e h, e)
 
-two-no-depth : (m : List ℕ) {w : ℕ} {r : List ℕ} → read_digits 2 m ≡ got w r → r ≡ [] → read_three (read_third depths) m ≡ misfit
+two-no-depth : (m : List ℕ) {w : ℕ} {r : List ℕ} → read_digits 2 m ≡ got w r → r ≡ [] → read_three (read_third Depths) m ≡ misfit
 two-no-depth m {w} {r} e h = go (leb 1 w) (depth-two m e (none-next is_digit r h))
   where
-    go : (t : Bool) → read_third depths m ≡ guard t (got w r) → read_three (read_third depths) m ≡ misfit
+    go : (t : Bool) → read_third Depths m ≡ guard t (got w r) → read_three (read_third Depths) m ≡ misfit
     go true q = rw (q, text-off 47 [] r (none-next (eqb 47) r h))
     go false q = rw q
 
@@ -162,7 +163,7 @@ gap-off f m h = rw (text-off 32 [] m (none-next (eqb 32) m h))
 
 behind-none : (m : List ℕ) → m ≡ [] → Behind m
 unfolding skip read_group
-behind-none m h = (ap word_next h, gap-off (read_three (read_third depths)) m h)
+behind-none m h = (ap word_next h, gap-off (read_three (read_third Depths)) m h)
 
 some-laws : Laws (λ w. (w < 100) × (leb 1 w ≡ true)) (λ w. gap ∷ digits 2 w) read_some (Gap (Head is_digit)) Any
 some-laws = gap-laws (if-laws (digits-laws 1) (λ w. leb 1 w)) (not-space is_digit refl)

@@ -8,8 +8,9 @@ use Rattle.surface.specs.Descriptions.{not_reported, dry, is_deep}
 use Rattle.surface.specs.Third.{third, is_code, is_coverage, least_depth, is_reported, valid_coverage, valid_depth, valid_third}
 use Rattle.surface.specs.Laws.Table3.{least-3}
 use Rattle.surface.specs.declared.Third.{Third}
-use Rattle.thirds.specs.Groups.{Three, descriptions, highest}
+use Rattle.thirds.specs.Groups.{Three, highest}
 use Rattle.thirds.specs.Laws.Groups.{Shown}
+use Rattle.thirds.specs.declared.Group.TheVariants.{Descriptions}
 use Rattle.row.specs.Row.{three_that, valid_row}
 use Rattle.rowtext.specs.Reading.{Rest, all_nr, make_thirds, make_row, each, is_runway, may_cover, may_lie}
 use Rattle.row.specs.declared.Row.{Row}
@@ -78,7 +79,7 @@ three-sound c v d s h =
       lies = and_i x.lies (and_i y.lies (and_i z.lies refl));
     }
 
-three-valid : (c v d s : Three) → each is_code c ≡ true → Shown descriptions s
+three-valid : (c v d s : Three) → each is_code c ≡ true → Shown Descriptions s
     → all valid_coverage (make_thirds c (v, (d, s))) ≡ true → all valid_depth (make_thirds c (v, (d, s))) ≡ true
     → three_that valid_third (make_thirds c (v, (d, s))) ≡ true
 unfolding three_that valid_third highest
@@ -110,7 +111,7 @@ row-parts t p c v d s w h =
     let k = and-2 _ _ h in
     record { time = and-1 _ _ h; runway = and-1 _ _ k; thirds = three-sound c v d s (and-2 _ _ (and-2 _ _ k)) }
 
-pub row-valid : (t : ℕ) (p : ℕ × ℕ) (c v d s : Three) (w : ℕ) → real_time t ≡ true → is_runway p ≡ true → each is_code c ≡ true → Shown descriptions s
+pub row-valid : (t : ℕ) (p : ℕ × ℕ) (c v d s : Three) (w : ℕ) → real_time t ≡ true → is_runway p ≡ true → each is_code c ≡ true → Shown Descriptions s
     → all valid_coverage (make_thirds c (v, (d, s))) ≡ true → all valid_depth (make_thirds c (v, (d, s))) ≡ true → w < 100
     → valid_row (made t p c (v, (d, s)) w) ≡ true
 unfolding valid_row made
