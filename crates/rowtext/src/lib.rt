@@ -16,7 +16,7 @@ ghost use Rattle.thirds.specs.Laws.Groups.{Shown};
 ghost use Rattle.rowtext.specs.Text.{field, group_of, middle_pieces, width_pieces, row_pieces};
 ghost use Rattle.rowtext.specs.Reading.{parted, each, time_group, runway_group, find_row, row_answer};
 ghost use Rattle.rowtext.specs.Writing.{row_text, WroteRow};
-ghost use Rattle.rowtext.specs.Code.Filling.{with_number, with_group, with_rest, may_stand, alone_group, judged, full_rest, fill_group, Filled, FaultAt, HeldWidth};
+ghost use Rattle.rowtext.specs.Code.Filling.{RowFound, with_number, with_group, with_rest, may_stand, alone_group, judged, full_rest, fill_group, Filled, FaultAt, HeldWidth};
 
 use fill::{put, put_digits};
 use row::{HIGHEST_RUNWAY, Row, blank_row, is_short, valid_row};
@@ -347,6 +347,27 @@ fn part_into(part: Part, row: Row, s: &[u8]) -> Result<Step, Fault>
     }
 }
 
+// The row that a whole line is: part by part, each in what is left of the line, and the first that is at fault refuses it.
+pub fn find_row(line: &[u8]) -> Result<Row, Fault>
+    ensures { RowFound line.now result }
+{
+    let mut row = blank_row();
+    let mut at = 0;
+    let mut parts = PARTS.iter();
+    'parts: loop {
+        let Some(&part) = parts.next() else {
+            break 'parts Ok(row);
+        };
+        match part_into(part, row, &line[at..]) {
+            Ok(step) => {
+                row = step.row;
+                at += step.next;
+            }
+            Err(fault) => break 'parts Err(fault.refusal.at(at + fault.place)),
+        }
+    }
+}
+
 #[repr(C)]
 #[derive(Clone, Copy)]
 pub struct RowRead {
@@ -357,34 +378,21 @@ pub struct RowRead {
     pub row: Row,
 }
 
-// The row that a whole line is: part by part, each in what is left of the line, and the first that is at fault refuses it.
+// The same for C: a line that is refused has a blank row.
 pub fn read_row(line: &[u8]) -> RowRead
     ensures { result ≡ row_answer line.now (find_row line.now) }
 {
-    let mut row = blank_row();
-    let mut at = 0;
-    let mut parts = PARTS.iter();
-    'parts: loop {
-        let Some(&part) = parts.next() else {
-            break 'parts RowRead {
-                refusal: 0,
-                place: 0,
-                row,
-            };
-        };
-        match part_into(part, row, &line[at..]) {
-            Ok(step) => {
-                row = step.row;
-                at += step.next;
-            }
-            Err(fault) => {
-                break 'parts RowRead {
-                    refusal: fault.refusal.number(),
-                    place: at + fault.place,
-                    row: blank_row(),
-                };
-            }
-        }
+    match find_row(line) {
+        Ok(row) => RowRead {
+            refusal: 0,
+            place: 0,
+            row,
+        },
+        Err(fault) => RowRead {
+            refusal: fault.refusal.number(),
+            place: fault.place,
+            row: blank_row(),
+        },
     }
 }
 

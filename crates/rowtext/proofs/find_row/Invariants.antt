@@ -2,7 +2,7 @@
 use Rattle.std.proofs.Common.{◌≡◌, ◌≤◌, length, drop}
 use Rattle.row.specs.Row.{blank_row}
 use Rattle.rowtext.specs.Code.Filling.{parts, fill_from}
-use Rattle.rowtext.proofs.read_row.Given as goal
+use Rattle.rowtext.proofs.find_row.Given as goal
 
 abbrev pub invariant-parts : goal.invariant-parts
 invariant-parts l = (l.at ≤ length l.line) × (fill_from l.parts.rest.now l.row (drop l.at l.line) ≡ fill_from parts blank_row l.line)
