@@ -2,33 +2,35 @@
 
 #![tactic(auto)]
 
-ghost use Rattle.std.specs.Prelude.{◌≡◌, drop};
+ghost use Rattle.std.specs.Prelude.{◌≡◌, drop, MatchResult};
 ghost use Rattle.text.specs.Put.{Put};
-ghost use Rattle.desktext.specs.Line.{shown_text, read_spaced, read_owner, read_owned, read_runways, list_answer, opening_line, read_sender, report_read, report_line};
-ghost use Rattle.desktext.specs.Code.Held.{HeldOwned};
+ghost use Rattle.desktext.specs.Line.{shown_text, read_owned, read_runways, list_found, opening_line, read_sender, report_line};
+ghost use Rattle.board.specs.Board.{answer};
+ghost use Rattle.board.specs.Report.{report};
+ghost use Rattle.desktext.specs.Code.Held.{HeldSpace, HeldOwned};
 ghost use Rattle.desktext.specs.Desk.{answer_line, shown_rows, refused_text, desk_text, desk_board};
 ghost use Rattle.desktext.specs.Pieces.{opened_standing, opened_line, board_of, after_line, line_answer, end_answer};
 ghost use Rattle.desktext.specs.Pieces.{start_state, begun, kept_byte, without_return, fed_state, fed_text, last_standing, last_text, finish_text};
-ghost use Rattle.text.specs.Read.{misfit, whole};
-ghost use Rattle.runway.specs.Code.Held.{HeldRunway};
+ghost use Rattle.text.specs.Names.{is_space, read_count};
+ghost use Rattle.text.specs.Read.{whole};
 ghost use Rattle.text.specs.Code.Held.{Held};
-ghost use Rattle.rowtext.specs.Reading.{find_row};
 
 use board::{
     Answer, BLANK_RUNWAY, Board, MOST_RUNWAYS, Runway, Sent, blank_board, open, refused_opening,
     updated,
 };
-use fill::{put, put_number, told_behind};
+use fill::{in_rest, put, put_number, told_behind};
 use frontlines::read_aerodrome;
 use row::{Row, valid_row};
 use rowtext::{put_any_row, read_row};
-use runway::{NO_RUNWAY, RunwayFound, read_runway};
+use runway::read_runway;
 use scan::{digits, word};
-use text::{Found, LONGEST, NONE, place, refusal};
+use text::refusal::Refusal;
+use text::{Found, LONGEST, place};
 
 // ---- The desk's lines
 
-// Runways and their owners in their arrays, zeros past the count; none where the text does not fit.
+// Runways and their owners in their arrays, zeros past the count.
 #[repr(C)]
 #[derive(Clone, Copy)]
 pub struct RunwayList {
@@ -40,102 +42,61 @@ pub struct RunwayList {
 // A runway, its owner, and the place behind them.
 #[derive(Clone, Copy)]
 struct OwnedFound {
-    fits: bool,
     runway: Runway,
     owner: u8,
     next: usize,
 }
 
-const NOT_OWNED: OwnedFound = OwnedFound {
-    fits: false,
-    runway: BLANK_RUNWAY,
-    owner: 0,
-    next: 0,
-};
-
-// One space and a runway at `i`.
-fn spaced_runway(s: &[u8], i: usize) -> RunwayFound
-    ensures { HeldRunway s.now (read_spaced (drop i s.now)) result }
+// The place behind one space at `i`.
+fn past_space(s: &[u8], i: usize) -> Option<usize>
+    ensures { HeldSpace s.now (read_count is_space 1 (drop i s.now)) result }
 {
-    if i < s.len() {
-        if s[i] == b' ' {
-            return read_runway(s, i + 1);
-        }
+    if i < s.len() && s[i] == b' ' {
+        Some(i + 1)
+    } else {
+        None
     }
-    NO_RUNWAY
 }
 
-// A slash and one digit at `i`.
-fn owner_at(s: &[u8], i: usize) -> Found
-    ensures { Held s.now (read_owner (drop i s.now)) result }
-{
-    let slash = word(s, i, b"/", 0);
-    if !slash.fits {
-        return NONE;
-    }
-    digits(s, slash.next, 1)
-}
-
-// One space, a runway and its owner at `i`.
-fn owned_runway(s: &[u8], i: usize) -> OwnedFound
+// One space, a runway, and its owner behind a slash at `i`.
+fn owned_runway(s: &[u8], i: usize) -> Option<OwnedFound>
     ensures { HeldOwned s.now (read_owned (drop i s.now)) result }
 {
-    let w = spaced_runway(s, i);
-    if !w.fits {
-        return NOT_OWNED;
-    }
-    let o = owner_at(s, w.next);
-    if !o.fits {
-        return NOT_OWNED;
-    }
-    OwnedFound {
-        fits: true,
+    let at = past_space(s, i)?;
+    let w = read_runway(s, at)?;
+    let slash = word(s, w.next, b"/", 0)?;
+    let owner = digits(s, slash.next, 1)?;
+    Some(OwnedFound {
         runway: Runway {
             number: w.number,
             side: w.side,
         },
-        owner: o.value as u8,
-        next: o.next,
-    }
-}
-
-fn no_list() -> RunwayList
-    ensures { result ≡ list_answer misfit }
-{
-    RunwayList {
-        count: 0,
-        runways: [BLANK_RUNWAY; 8],
-        owners: [0; 8],
-    }
+        owner: owner.value as u8,
+        next: owner.next,
+    })
 }
 
 // The runways with their owners up to the end of the line, each read at its place.
-fn runway_list(s: &[u8]) -> RunwayList
-    ensures { result ≡ list_answer (whole (read_runways s.now)) }
+fn runway_list(s: &[u8]) -> Option<RunwayList>
+    ensures { result ≡ list_found (whole (read_runways s.now)) }
 {
-    let mut runways = [BLANK_RUNWAY; 8];
-    let mut owners = [0; 8];
-    let mut count: u8 = 0;
-    let mut at: usize = 0;
+    let mut list = RunwayList {
+        count: 0,
+        runways: [BLANK_RUNWAY; 8],
+        owners: [0; 8],
+    };
+    let mut at = 0;
     while at < s.len() {
-        if MOST_RUNWAYS <= count {
-            return no_list();
+        if list.count == MOST_RUNWAYS {
+            return None;
         }
-        let found = owned_runway(s, at);
-        if !found.fits {
-            return no_list();
-        }
-        let w = found.runway;
-        runways[count as usize] = w;
-        owners[count as usize] = found.owner;
-        count += 1;
+        let found = owned_runway(s, at)?;
+        list.runways[list.count as usize] = found.runway;
+        list.owners[list.count as usize] = found.owner;
+        list.count += 1;
         at = found.next;
     }
-    RunwayList {
-        count,
-        runways,
-        owners,
-    }
+    Some(list)
 }
 
 const AERODROME_SIZE: usize = 4;
@@ -147,67 +108,57 @@ fn open_line(line: &[u8]) -> Answer
     if line.len() < AERODROME_SIZE {
         return refused_opening();
     }
-    let a = read_aerodrome(&line[..AERODROME_SIZE]);
-    if !a.fits {
+    let Some(aerodrome) = read_aerodrome(&line[..AERODROME_SIZE]) else {
         return refused_opening();
-    }
-    let l = runway_list(&line[AERODROME_SIZE..]);
-    let aerodrome = a.aerodrome;
-    let runways = l.runways;
-    let owners = l.owners;
-    open(aerodrome, l.count, runways, owners)
+    };
+    let Some(list) = runway_list(&line[AERODROME_SIZE..]) else {
+        return refused_opening();
+    };
+    open(aerodrome, list.count, list.runways, list.owners)
 }
 
 // The desk that a row line starts with: one digit, and exactly one space.
-fn sender(line: &[u8]) -> Found
+fn sender(line: &[u8]) -> Option<Found>
     ensures { Held line.now (read_sender line.now) result }
 {
-    let d = digits(line, 0, 1);
-    if !d.fits {
-        return NONE;
-    }
-    let at = d.next;
-    if at < line.len() {
-        if line[at] == b' ' {
-            return Found {
-                fits: true,
-                value: d.value,
-                next: at + 1,
-            };
-        }
-    }
-    NONE
+    let desk = digits(line, 0, 1)?;
+    let next = past_space(line, desk.next)?;
+    Some(Found {
+        value: desk.value,
+        next,
+    })
 }
 
-// The report of the row behind a line's start, or the refusal of the group at fault where there is no row.
-fn report_rest(b: Board, desk: u32, rest: &[u8]) -> Answer
-    ensures { result ≡ report_read b desk (find_row rest.now) }
+// The report that a line tells, or the refusal number: 5 where it does not start with a desk or is over 4,096 bytes, and the row's where it is no row
+// behind that.
+fn read_report(line: &[u8]) -> Result<Sent, u8>
+    ensures { MatchResult result
+        (λ x. (b : Board) → report_line b line.now ≡ report b x.desk x.row)
+        (λ n. (b : Board) → report_line b line.now ≡ answer n b) }
 {
-    let read = read_row(rest);
-    if read.refusal == 0 {
-        let row = read.row;
-        return updated(b, Sent { desk, row });
+    if LONGEST < line.len() {
+        return Err(Refusal::NoRow.number());
     }
-    Answer {
-        refusal: read.refusal,
-        board: b,
+    let Some(start) = sender(line) else {
+        return Err(Refusal::NoRow.number());
+    };
+    let read = read_row(&line[start.next..]);
+    if read.refusal != 0 {
+        return Err(read.refusal);
     }
+    Ok(Sent {
+        desk: start.value,
+        row: read.row,
+    })
 }
 
-// The report that a line is: 5 where it does not start with a desk or is over 4,096 bytes, and the row's refusal where it is no row behind that.
+// The report that a line is, taken or refused; a line that is none leaves the board as it was.
 fn report_line(b: Board, line: &[u8]) -> Answer
     ensures { result ≡ report_line b line.now }
 {
-    if line.len() <= LONGEST {
-        let start = sender(line);
-        if start.fits {
-            let at = start.next;
-            return report_rest(b, start.value, &line[at..]);
-        }
-    }
-    Answer {
-        refusal: refusal::NO_ROW,
-        board: b,
+    match read_report(line) {
+        Ok(x) => updated(b, x),
+        Err(refusal) => Answer { refusal, board: b },
     }
 }
 
@@ -215,11 +166,11 @@ fn report_line(b: Board, line: &[u8]) -> Answer
 fn put_line(rest: &mut [u8], r: Row) -> usize
     ensures { Put 0 (shown_text r) rest.old rest.new result }
 {
-    if valid_row(r) {
-        let at = put_any_row(rest, r);
-        return put(rest, at, b"\n");
+    if !valid_row(r) {
+        return put(rest, 0, b"");
     }
-    put(rest, 0, b"")
+    let at = put_any_row(rest, r);
+    put(rest, at, b"\n")
 }
 
 // ---- What the desk prints
@@ -236,9 +187,7 @@ fn put_answer(out: &mut [u8], at: usize, n: u8) -> usize
 fn shown_at(out: &mut [u8], at: usize, r: Row) -> usize
     ensures { Put at (shown_text r) out.old out.new result }
 {
-    let start = place(out, at);
-    let n = put_line(&mut out[start..], r);
-    told_behind(out, at, n)
+    in_rest(out, at, |rest| put_line(rest, r))
 }
 
 // The rows shown, in board order.

@@ -120,15 +120,12 @@ pub fn read_front(m: &[u8]) -> Result<FrontFound, Fault>
 {
     let mut front = blank_front();
     let mut at: usize = 0;
-    let mut k: usize = 0;
+    let mut left = LINES.iter();
     'lines: loop {
-        let Some(&line) = LINES.get(k) else {
+        let Some(&line) = left.next() else {
             break 'lines Ok(FrontFound { front, next: at });
         };
-        let fault = Fault {
-            refusal: line_refusal(line),
-            place: at,
-        };
+        let fault = line_refusal(line).at(at);
         if m.len() <= at {
             break 'lines Err(fault);
         }
@@ -137,7 +134,6 @@ pub fn read_front(m: &[u8]) -> Result<FrontFound, Fault>
             break 'lines Err(fault);
         };
         at += first.next;
-        k += 1;
     }
 }
 

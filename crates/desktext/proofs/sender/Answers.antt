@@ -1,25 +1,15 @@
-use borrow.Author.Tests.{not-true, not-false}
-use Rattle.text.specs.Laws.Held.{missed, got_of, misfit-of}
-use Rattle.desktext.proofs.Lines.{no_digit, starts, no_start, space-missing, space-past}
+use Rattle.text.specs.Laws.Held.{missed}
+use Rattle.desktext.specs.Line.{read_sender}
 use Rattle.desktext.proofs.sender.Goals as goal
 
-pub returns-then-not-d : goal.returns-then-not-d
-returns-then-not-d c = missed (no_digit c.args.line.now (misfit-of c.digits-d.ensures (not-true _ c.if-not-d.true)))
+pub returns-in_err-desk : goal.returns-in_err-desk
+unfolding read_sender
+returns-in_err-desk c = rw c.from_residual.ensures (missed (rw c.in_err-desk.ensures.says))
 
-pub returns-then-line-at-eq32 : goal.returns-then-line-at-eq32
-returns-then-line-at-eq32 c =
-    let m = c.args.line.now in
-    let d = c.digits-d in
-    starts m d.result (got_of d.ensures (not-false _ c.if-not-d.false)) c.if-at-line.true c.if-line-at-eq32.true
+pub returns-in_err-next : goal.returns-in_err-next
+unfolding read_sender
+returns-in_err-next c = rw c.from_residual-in_err-next.ensures (missed (rw (c.in_ok-desk.ensures.says, c.in_err-next.ensures.says)))
 
-pub returns-else-line-at-eq32 : goal.returns-else-line-at-eq32
-returns-else-line-at-eq32 c =
-    let m = c.args.line.now in
-    let d = c.digits-d in
-    no_start m d.result (got_of d.ensures (not-false _ c.if-not-d.false)) (space-missing m d.result.next c.if-at-line.true c.if-line-at-eq32.false)
-
-pub returns-else-at-line : goal.returns-else-at-line
-returns-else-at-line c =
-    let m = c.args.line.now in
-    let d = c.digits-d in
-    no_start m d.result (got_of d.ensures (not-false _ c.if-not-d.false)) (space-past m d.result.next c.if-at-line.false)
+pub returns : goal.returns
+unfolding read_sender
+returns c = let n = c.in_ok-next.ensures in record { within = n.within; says = rw (c.in_ok-desk.ensures.says, n.says) }

@@ -1,7 +1,9 @@
-use Rattle.std.proofs.Common.{ltb-true, ltb-false, sym, arith}
+use Rattle.std.proofs.Common.{arith}
+use Rattle.std.proofs.lemmas.Iterator.{YieldsList-from_slice}
+use Rattle.std.proofs.lemmas.Iterator.Consumers.{YieldsList-turn, YieldsList-end}
+use Rattle.std.proofs.lemmas.List.{length_push}
 use Rattle.text.specs.Laws.Lines.{line-inside}
-use Rattle.front.specs.Code.Front.{front_count}
-use Rattle.front.proofs.Opening.{line-number, none-read, all-read, line-missing, line-misfit, line-filled}
+use Rattle.front.proofs.Opening.{lines, line-number, none-read, all-read, line-missing, line-misfit, line-filled}
 use Rattle.front.proofs.read_front.Goals as goal
 
 pub lines-init : goal.lines-init
@@ -18,22 +20,23 @@ overflow_add-at-in-lines c = omega (arith, (line-inside c.args.m.now c.lines.at 
 
 pub lines-preserved : goal.lines-preserved
 lines-preserved c =
-    let l = c.in-Some.ensures.lookup in
-    let h = ltb-true c.lines.k front_count (sym l.0) in
-    line-filled c.lines.invariant h c.if-m-at.false c.first_line-first.ensures (rw (line-number h l.1) at c.in-Some-fill_line.ensures)
+    let l = YieldsList-turn (YieldsList-from_slice lines cc) c.lines.yielded _ c.lines.yielded_by _ _ c.in-Some.field-0 c.in-Some.is c.next.ensures.steps in
+    rw (length_push c.lines.yielded c.in-Some.field-0)
+    (line-filled c.lines.invariant l.0 c.if-m-at.false c.first_line-first.ensures (rw (line-number l.0 l.1) at c.in-Some-fill_line.ensures))
 
 pub returns-in_default : goal.returns-in_default
-returns-in_default c = all-read c.lines.invariant (ltb-false c.lines.k front_count (sym c.in_default.ensures.lookup.0))
+returns-in_default c =
+    let l = YieldsList-end (YieldsList-from_slice lines cc) c.lines.yielded _ c.lines.yielded_by _ _ c.in_default.is c.next.ensures.steps in
+    all-read c.lines.invariant (omega (arith, l.1))
 
 pub returns-then-m-at : goal.returns-then-m-at
 returns-then-m-at c =
-    let l = c.in-Some.ensures.lookup in
-    let h = ltb-true c.lines.k front_count (sym l.0) in
-    line-missing c.lines.invariant h (rw (line-number h l.1) at c.line_refusal.ensures) c.if-m-at.true
+    let l = YieldsList-turn (YieldsList-from_slice lines cc) c.lines.yielded _ c.lines.yielded_by _ _ c.in-Some.field-0 c.in-Some.is c.next.ensures.steps in
+    rw c.at-fault.ensures (line-missing c.lines.invariant l.0 (rw (line-number l.0 l.1) at c.line_refusal.ensures) c.if-m-at.true)
 
 pub returns-in_default-fill_line : goal.returns-in_default-fill_line
 returns-in_default-fill_line c =
-    let l = c.in-Some.ensures.lookup in
-    let h = ltb-true c.lines.k front_count (sym l.0) in
-    line-misfit c.lines.invariant h c.if-m-at.false c.first_line-first.ensures
-    (rw (line-number h l.1) at c.line_refusal.ensures) (rw (line-number h l.1) at c.in_default-fill_line.ensures)
+    let l = YieldsList-turn (YieldsList-from_slice lines cc) c.lines.yielded _ c.lines.yielded_by _ _ c.in-Some.field-0 c.in-Some.is c.next.ensures.steps in
+    rw c.at-fault.ensures
+    (line-misfit c.lines.invariant l.0 c.if-m-at.false c.first_line-first.ensures (rw (line-number l.0 l.1) at c.line_refusal.ensures)
+    (rw (line-number l.0 l.1) at c.in_default-fill_line.ensures))
