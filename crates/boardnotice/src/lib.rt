@@ -3,7 +3,6 @@
 #![tactic(auto)]
 
 ghost use Rattle.std.specs.Prelude.{◌≡◌};
-ghost use Rattle.text.specs.Refusals.{number};
 ghost use Rattle.body.specs.Rows.{make_rows};
 ghost use Rattle.board.specs.Board.{reported};
 ghost use Rattle.boardnotice.specs.Writing.{board_record, WroteBoard};
@@ -63,15 +62,6 @@ fn board_record(b: Board, d: Details, items: Items, language: Language) -> Recor
     }
 }
 
-fn unwritten(refusal: Refusal) -> Written
-    ensures { result ≡ unwritten (number refusal) }
-{
-    Written {
-        refusal: refusal.number(),
-        length: 0,
-    }
-}
-
 // Writes the notice of a board, the stored time in its heading: 17, then 21 where no row is shown, then 13 and 14. A refused writing touches no byte.
 pub fn write_board(
     b: Board,
@@ -83,11 +73,11 @@ pub fn write_board(
     ensures { WroteBoard b d items language buffer.old buffer.new result }
 {
     if !valid_board(b) {
-        return unwritten(Refusal::WrongBoard);
+        return Err(Refusal::WrongBoard).into();
     }
     let r = board_record(b, d, items, language);
     if r.rows.count == 0 {
-        return unwritten(Refusal::NoReport);
+        return Err(Refusal::NoReport).into();
     }
     write_at(r, b.latest, buffer)
 }
