@@ -18,7 +18,7 @@ use rowtext::{find_row, put_any_row};
 use runway::is_later;
 use scan::spaces;
 use text::refusal::{Fault, Refusal};
-use text::{first_line, is_closed};
+use text::{first_line, is_closed, line_text};
 
 // 1 to 8 rows, zeros past the count.
 #[repr(C)]
@@ -107,17 +107,6 @@ pub fn latest_time(r: Rows) -> u32
     match r.shown() {
         [] => 0,
         [first, rest @ ..] => rest.iter().fold(first.time, |t, s| later_of(t, s.time)),
-    }
-}
-
-// A line without the `)` that closes it.
-fn line_text(line: &[u8]) -> &[u8]
-    ensures { result.now ≡ line_text line.now }
-{
-    if is_closed(line) {
-        &line[..line.len() - 1]
-    } else {
-        line
     }
 }
 
