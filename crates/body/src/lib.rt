@@ -42,15 +42,11 @@ pub const MOST_ROWS: u8 = 8;
 const TIME_SIZE: usize = 8;
 
 impl Rows {
-    // The rows that count; the array is all that a wrong count can show.
+    // The rows up to the count; of a count above eight, all eight.
     pub fn shown(&self) -> &[Row]
         ensures { result.now ≡ rows_of self.now }
     {
-        if self.count <= MOST_ROWS {
-            &self.rows[..self.count as usize]
-        } else {
-            &self.rows
-        }
+        &self.rows[..self.count.min(MOST_ROWS) as usize]
     }
 }
 
@@ -85,6 +81,7 @@ fn all_blank(rows: &[Row]) -> bool
 }
 
 // 1 to 8 valid rows, no runway twice, zeros past the count.
+#[tactic(auto, using(text::specs::Laws::Tests::and_is, crate::proofs::Loops::rest_all), unfolding(crate::specs::Rows::valid_rows))]
 pub fn valid_rows(r: Rows) -> bool
     ensures { result ≡ valid_rows r }
 {
@@ -96,6 +93,7 @@ pub fn valid_rows(r: Rows) -> bool
 }
 
 // Of two times the later.
+#[tactic(auto, unfolding(crate::specs::Rows::latest_of))]
 pub fn later_of(t: u32, s: u32) -> u32
     ensures { result ≡ latest_of t s }
 {
