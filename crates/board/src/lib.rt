@@ -3,12 +3,12 @@
 
 #![tactic(auto)]
 
-ghost use Rattle.std.specs.Prelude.{◌≡◌, ◌<◌, ◌≤◌, length, MatchOption, MatchResult};
+ghost use Rattle.std.specs.Prelude.{◌≡◌, ◌<◌, ◌≤◌, length, take, MatchOption, MatchResult};
 ghost use Rattle.std.specs.List.{list_all, zip};
 ghost use Rattle.text.specs.Choice.{all};
 ghost use Rattle.text.specs.Refusals.{number};
 ghost use Rattle.row.specs.Row.{is_blank_row};
-ghost use Rattle.board.specs.Board.{is_aerodrome, blank_runway, is_blank_runway, rises, rising, valid_list, names, fits_place, valid_places, latest_shown, is_desk, valid_owners, valid_opening, valid_board, blank_board, answer, opening, refused_opening};
+ghost use Rattle.board.specs.Board.{is_aerodrome, blank_runway, is_blank_runway, rises, rising, names, fits_place, fit_places, latest_shown, is_desk, valid_opening, valid_board, blank_board, answer, opening, refused_opening};
 ghost use Rattle.board.specs.Report.{place_of, place_for, is_news, refusal, newest, report};
 ghost use Rattle.board.specs.Laws.Latest.{Goods};
 
@@ -103,17 +103,6 @@ fn all_blank(runways: &[Runway]) -> bool
     runways.iter().all(|&w| is_blank_runway(w))
 }
 
-// An aerodrome, and 1 to 8 runways that rise, with zeros behind them.
-fn valid_list(aerodrome: [u8; 4], count: u8, runways: [Runway; 8]) -> bool
-    ensures { result ≡ valid_list aerodrome count runways }
-{
-    is_aerodrome(aerodrome)
-        && 1 <= count
-        && count <= MOST_RUNWAYS
-        && all_rise(&runways[..count as usize])
-        && all_blank(&runways[count as usize..])
-}
-
 fn is_desk(desk: u32) -> bool
     ensures { result ≡ is_desk desk }
 {
@@ -126,19 +115,18 @@ fn all_desks(owners: &[u8]) -> bool
     owners.iter().all(|&owner| is_desk(u32::from(owner)))
 }
 
-// A desk for each of `count` runways, and zeros behind them.
-fn valid_owners(count: usize, owners: [u8; 8]) -> bool
-    requires { count ≤ 8 }
-    ensures { result ≡ valid_owners count owners }
-{
-    all_desks(&owners[..count]) && zeros_from(&owners, count)
-}
-
-// An aerodrome, a list of runways and their owners that opening takes.
+// What opening takes: an aerodrome, 1 to 8 runways that rise, and a desk for each, with zeros behind them.
 fn valid_opening(aerodrome: [u8; 4], count: u8, runways: [Runway; 8], owners: [u8; 8]) -> bool
     ensures { result ≡ valid_opening aerodrome count runways owners }
 {
-    valid_list(aerodrome, count, runways) && valid_owners(count as usize, owners)
+    let n = usize::from(count);
+    is_aerodrome(aerodrome)
+        && 1 <= n
+        && n <= PLACES
+        && all_rise(&runways[..n])
+        && all_blank(&runways[n..])
+        && all_desks(&owners[..n])
+        && zeros_from(&owners, n)
 }
 
 fn names(r: Row, w: Runway) -> bool
@@ -167,12 +155,12 @@ fn all_unreported(rows: &[Row]) -> bool
     rows.iter().all(|&r| is_blank_row(r))
 }
 
-// Each row shown stands in its own runway's place, and zeros in every unused one.
-fn valid_places(count: usize, runways: [Runway; 8], rows: [Row; 8]) -> bool
-    requires { count ≤ 8 }
-    ensures { result ≡ valid_places count runways rows }
+// Each row shown stands in its own runway's place, and zeros in every place past the runways.
+fn fit_places(runways: &[Runway], rows: &[Row]) -> bool
+    requires { length runways.now ≤ length rows.now }
+    ensures { result ≡ fit_places runways.now rows.now }
 {
-    all_fit(&runways[..count], &rows) && all_unreported(&rows[count..])
+    all_fit(runways, rows) && all_unreported(&rows[runways.len()..])
 }
 
 // Of a stored time and a row's the later; where none is stored, the row's.
@@ -200,12 +188,22 @@ fn latest_shown(rows: [Row; 8]) -> u32
     latest
 }
 
+impl Board {
+    // The runways that the board has.
+    fn used(&self) -> &[Runway]
+        requires { self.now.count ≤ 8 }
+        ensures { result.now ≡ take self.now.count self.now.runways }
+    {
+        &self.runways[..usize::from(self.count)]
+    }
+}
+
 // Whether a board that is handed in keeps its rules.
 pub fn valid_board(b: Board) -> bool
     ensures { result ≡ valid_board b }
 {
     valid_opening(b.aerodrome, b.count, b.runways, b.owners)
-        && valid_places(b.count as usize, b.runways, b.rows)
+        && fit_places(b.used(), &b.rows)
         && b.latest == latest_shown(b.rows)
 }
 
@@ -284,8 +282,7 @@ fn place_taken(b: &Board, x: Sent) -> Result<usize, Refusal>
     if !valid_row(x.row) {
         return Err(Refusal::InvalidRow);
     }
-    let runways = &b.runways[..b.count as usize];
-    let Some(i) = place_of(x.row, runways) else {
+    let Some(i) = place_of(x.row, b.used()) else {
         return Err(Refusal::NotOnBoard);
     };
     if x.desk != u32::from(b.owners[i]) {

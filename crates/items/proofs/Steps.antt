@@ -1,17 +1,12 @@
--- One step of each loop.
-use Prim.Native.Nat.{ℕ, suc, ◌+◌, ◌-◌, ◌<◌, ◌≤◌}
-use mathlib.Core.Path.{◌≡◌, refl, sym, ◌∙◌, ap}
-use mathlib.Core.List.{List, [], ◌∷◌, ◌++◌}
-use mathlib.Core.Bool.{true, false, not}
-use native.Mathlib.Numerals.{add-one}
-use native.Mathlib.Omega.{arith}
-use lib.ListN.{length, drop, get_or, take, length-take, take-append-drop}
-use lib.Seq.{drop-cons, get_or-take, take_all, take-take, take-suc}
+-- One step of each loop, and what a test of the code tells.
+use Rattle.std.specs.Prelude.{ℕ, suc, ◌+◌, ◌-◌, ◌<◌, ◌≤◌, ◌≡◌, ◌↔◌, refl, List, [], ◌∷◌, Bool, true, false, not, IsTrue, length, take, drop}
+use Rattle.std.proofs.Common.{sym, arith}
 use Rattle.text.specs.Choice.{◌and◌, all, same_bytes}
 use Rattle.text.specs.Arrays.{slots, is_zero}
-use Rattle.items.specs.Item.{valid_slot, is_new, slots_fit, valid_item}
-use Rattle.items.specs.Awareness.{in_order, stands_behind, sound_items}
-use Rattle.items.specs.Laws.Order.{sound-on, sound-invalid, sound-misplaced}
+use Rattle.items.specs.Item.{valid_slot, is_new, slots_fit}
+use Rattle.items.specs.Awareness.{in_order, blank_item, is_blank_item}
+use Rattle.items.specs.Laws.Awareness.{blank-item}
+use Rattle.items.specs.Laws.Parts.{blank-item-blank}
 use Rattle.items.specs.declared.Item.{Item}
 
 -- the first of the taxiways that are left, of which k are passed
@@ -37,32 +32,17 @@ module _ (n k : ℕ) (f : List ℕ) where
     unfolding slots_fit
     slots_end = let z : n - k ≡ 0 = omega arith in rw z
 
--- what stands past an array's end
-abbrev pub outside : Item
-outside = record { letter = 0; number = 0; side = 0; amount = 0; edge = 0; count = 0; taxiways = []; name = [] }
+-- no items are in order
+pub none-in-order : (is : List Item) → length is ≡ 0 → in_order is ≡ true
+unfolding in_order
+none-in-order [] h = refl
+none-in-order (i ∷ is) h = absurd (omega arith)
 
--- the first n are the first k, the one behind them, and the others
-pub front-split : {A : Type 0} (z : A) (l : List A) (n k : ℕ) → k < n → k < length l → take n l ≡ take k l ++ (get_or l k z ∷ drop (k + 1) (take n l))
-front-split z l n k h i =
-    let j : k < length (take n l) = rw length-take (omega arith) in
-    let o : k ≤ n = omega arith in
-    sym (take-append-drop k (take n l)) ∙ rw (take-take k n l o, add-one, drop-cons (take n l) k z j, get_or-take n l k z h)
-
--- the items of a record, one after the other
-module _ (l : List Item) (n k : ℕ) where
-  pub items-begin : sound_items (take 0 l) ≡ true
-  unfolding sound_items in_order ◌and◌
-  items-begin = refl
-
-  pub items-all : sound_items (take k l) ≡ true → length l ≤ k → k ≤ n → sound_items (take n l) ≡ true
-  items-all h e o = ap sound_items (take_all n l (omega arith) ∙ sym (take_all k l e)) ∙ h
-
-  module _ (h : k < n) (i : k < length l) where
-    pub items-on : sound_items (take k l) ≡ true → valid_item (get_or l k outside) ≡ true → stands_behind (take k l) (get_or l k outside) ≡ true → sound_items (take (k + 1) l) ≡ true
-    items-on s v b = rw (add-one, take-suc l k outside i) (sound-on (get_or l k outside) (take k l) s v b)
-
-    pub items-invalid : valid_item (get_or l k outside) ≡ false → sound_items (take n l) ≡ false
-    items-invalid v = ap sound_items (front-split outside l n k h i) ∙ sound-invalid (get_or l k outside) (take k l) (drop (k + 1) (take n l)) v
-
-    pub items-misplaced : stands_behind (take k l) (get_or l k outside) ≡ false → sound_items (take n l) ≡ false
-    items-misplaced b = ap sound_items (front-split outside l n k h i) ∙ sound-misplaced (get_or l k outside) (take k l) (drop (k + 1) (take n l)) b
+-- the blank item is blank, and no other is
+pub blank-told : (i : Item) (b : Bool) → (IsTrue b ↔ (i ≡ blank_item)) → b ≡ is_blank_item i
+blank-told i true h = let e = h.0 refl in sym (rw e blank-item-blank)
+blank-told i false h = go (is_blank_item i) refl
+  where
+    go : (t : Bool) → is_blank_item i ≡ t → false ≡ t
+    go true e = h.1 (blank-item i e)
+    go false e = refl

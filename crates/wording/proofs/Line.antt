@@ -40,7 +40,11 @@ pub line-first : (j : Item) (others : List Item) → awareness_text (take 1 (j �
 unfolding awareness_pieces
 line-first j others = ap canonical (append-nil (item_pieces j))
 
+-- what stands past the items of a slice
+abbrev outside : Item
+outside = record { letter = 0; number = 0; side = 0; amount = 0; edge = 0; count = 0; taxiways = []; name = [] }
+
 -- the item behind the first and k others
-pub line-next : (d j : Item) (others : List Item) (k : ℕ) → k < length others
-    → awareness_text (take (k + 1 + 1) (j ∷ others)) ≡ awareness_text (take (k + 1) (j ∷ others)) ++ (bytes " " ++ canonical (item_pieces (get_or others k d)))
-line-next d j others k h = rw (add-one, add-one, take-suc others k d h) (line-more j (take k others) (get_or others k d))
+pub line-next : (j : Item) (others : List Item) (k : ℕ) → k < length others
+    → awareness_text (take (k + 1 + 1) (j ∷ others)) ≡ awareness_text (take (k + 1) (j ∷ others)) ++ (bytes " " ++ canonical (item_pieces (get_or others k outside)))
+line-next j others k h = rw (add-one, add-one, take-suc others k outside h) (line-more j (take k others) (get_or others k outside))

@@ -1,10 +1,7 @@
-use Rattle.std.proofs.Common.{◌≡◌, ◌-◌, sym, ◌∙◌, arith}
+use Rattle.std.proofs.Common.{sym, ◌∙◌, arith}
 use Rattle.text.specs.Choice.{◌and◌}
 use Rattle.items.proofs.Steps.{slots-step, slots_end}
 use Rattle.items.proofs.slots_fit.Goals as goal
-
-pub loop-k-init : goal.loop-k-init
-loop-k-init c = let z : c.args.n - 0 ≡ c.args.n = omega arith in rw z
 
 pub returns-then-not-is_new : goal.returns-then-not-is_new
 unfolding ◌and◌

@@ -1,6 +1,5 @@
 use Rattle.std.proofs.Common.{◌+◌, refl, arith, take_all}
 use Rattle.text.specs.Laws.Put.{more}
-use Rattle.items.proofs.Steps.{outside}
 use Rattle.wording.proofs.Line.{no-line, line-first, line-next}
 use Rattle.wording.proofs.put_awareness.Goals as goal
 
@@ -17,7 +16,7 @@ loop-item-preserved c =
     let s = c.in-Some in
     let l = c.loop-item in
     let e = s.ensures.cases.0 in
-    rw (e, line-next outside s.first.now s.others.now l.item-index c.loop-item-test.true)
+    rw (e, line-next s.first.now s.others.now l.item-index c.loop-item-test.true)
     (more (rw e at l.invariant) (more c.put-start.ensures c.put_item-behind-in-loop-item.ensures))
 
 pub returns : goal.returns
