@@ -21,7 +21,7 @@ use Rattle.radio.specs.Record.{each, row_bytes, is_count, radio_record, sendable
 use Rattle.radio.specs.Answers.{sending, written, filled, WroteRadio}
 use Rattle.radio.specs.Laws.Fields.{Filled, full, one, may-small, own-numbers}
 use Rattle.radio.specs.Laws.Record.{each_append, record_is}
-use Rattle.radio.specs.Code.Held.{as_written}
+use Rattle.text.specs.Code.Writes.{as_written}
 use Rattle.radio.proofs.Rows.{Here}
 
 -- behind the end there is nothing

@@ -4,6 +4,7 @@
 
 ghost use Rattle.std.specs.Prelude.{◌≡◌, [], true, ◌+◌, ◌-◌, ◌*◌, ◌<◌, ◌≤◌, leb, length};
 ghost use Rattle.text.specs.Put.{Put};
+ghost use Rattle.text.specs.Code.Writes.{as_written};
 ghost use Rattle.runway.specs.Time.{real_time};
 ghost use Rattle.row.specs.Row.{valid_row};
 ghost use Rattle.body.specs.Rows.{most_rows, rows_of};
@@ -12,7 +13,7 @@ ghost use Rattle.radio.specs.Minutes.{year_minutes, days_in, date_of, minutes_of
 ghost use Rattle.radio.specs.Fields.{number_of, may_be, fill};
 ghost use Rattle.radio.specs.Record.{row_bytes, sendable, read_row, read_rows, radio_record};
 ghost use Rattle.radio.specs.Answers.{answer, radio_reading, WroteRadio};
-ghost use Rattle.radio.specs.Code.Held.{of_row, HeldNumber, HeldRow, as_radio, as_written};
+ghost use Rattle.radio.specs.Code.Held.{of_row, HeldNumber, HeldRow, as_radio};
 
 use Field::{Code, Coverage, Depth, Description, Minutes, Runway, Width};
 use body::{MOST_ROWS, Rows, all_new, all_valid, blank_rows, is_among};
@@ -392,11 +393,5 @@ fn write_record(r: Rows, out: &mut [u8]) -> Result<usize, Refusal>
 pub fn write_radio(r: Rows, out: &mut [u8]) -> Written
     ensures { WroteRadio r out.old out.new result }
 {
-    match write_record(r, out) {
-        Ok(length) => Written { refusal: 0, length },
-        Err(refusal) => Written {
-            refusal: refusal.number(),
-            length: 0,
-        },
-    }
+    Written::from(write_record(r, out))
 }

@@ -51,8 +51,3 @@ HeldRow = Held (λ f. f.row) (λ f. f.next)
 abbrev pub as_radio : Result Rows Refusal → Radio
 as_radio (Ok rows) = record { refusal = 0; rows = rows }
 as_radio (Err e) = refused (number e)
-
--- the answer to rows that the length of their record or a refusal stands for
-abbrev pub as_written : Result ℕ Refusal → Written
-as_written (Ok n) = record { refusal = 0; length = n }
-as_written (Err e) = unwritten (number e)
