@@ -22,8 +22,8 @@ use row::{GREATEST_WIDTH, Row, blank_row, valid_row};
 use runway::days_of;
 use surface::GREATEST_DEPTH;
 use surface::description::DRY;
-use text::Written;
 use text::refusal::Refusal;
+use text::{Found, Written};
 
 // The rows of a record, or why they are none.
 #[repr(C)]
@@ -41,13 +41,6 @@ const MORE: u8 = 128;
 
 // A group holds a number below this.
 const GROUP: u32 = 128;
-
-// The number at the front of a record, and the place behind it.
-#[derive(Clone, Copy)]
-struct Found {
-    value: u32,
-    next: usize,
-}
 
 // The number of a group that has its high bit set and of the groups above it.
 fn above(group: u8, high: u32) -> u32
@@ -177,6 +170,7 @@ const LEAST_RUNWAY: u32 = 4;
 const GREATEST_RUNWAY: u32 = 75;
 
 // What the number alone may be.
+#[tactic(auto, using(text::specs::Laws::Tests::and_is))]
 fn may_be(field: Field, x: u32) -> bool
     ensures { result ≡ may_be field x }
 {
