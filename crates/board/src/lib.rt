@@ -56,6 +56,7 @@ pub struct Sent {
 #[repr(C)]
 #[derive(Clone, Copy)]
 pub struct Answer {
+    // stays: C interface: 0, or the number of a refusal
     pub refusal: u8,
     pub board: Board,
 }

@@ -73,11 +73,11 @@ pub fn write_board(
     ensures { WroteBoard b d items language buffer.old buffer.new result }
 {
     if !valid_board(b) {
-        return Err(Refusal::WrongBoard).into();
+        return Written::from(Err(Refusal::WrongBoard));
     }
     let r = board_record(b, d, items, language);
     if r.rows.count == 0 {
-        return Err(Refusal::NoReport).into();
+        return Written::from(Err(Refusal::NoReport));
     }
     write_at(r, b.latest, buffer)
 }

@@ -88,6 +88,7 @@ fn runway_list(s: &[u8]) -> Option<RunwayList>
         owners: [0; 8],
     };
     let mut at = 0;
+    // stays: no plainer: a step is as long as what it reads
     while at < s.len() {
         if list.count == MOST_RUNWAYS {
             return None;

@@ -29,7 +29,7 @@ use text::refusal::Refusal;
 #[repr(C)]
 #[derive(Clone, Copy)]
 pub struct Radio {
-    // 0 for a record that is read
+    // 0 for a record that is read; stays: C interface
     pub refusal: u8,
     pub rows: Rows,
 }

@@ -371,7 +371,7 @@ pub fn find_row(line: &[u8]) -> Result<Row, Fault>
 #[repr(C)]
 #[derive(Clone, Copy)]
 pub struct RowRead {
-    // 0 for a row that is taken, else 5 or 24 to 28
+    // 0 for a row that is taken, else 5 or 24 to 28; stays: C interface
     pub refusal: u8,
     // the first byte of the group at fault, 0 for a row that is taken
     pub place: usize,
