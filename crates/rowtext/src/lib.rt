@@ -2,7 +2,7 @@
 
 #![tactic(auto)]
 
-ghost use Rattle.std.specs.Prelude.{◌≡◌, ◌≤◌, leb, length, drop, IfSome};
+ghost use Rattle.std.specs.Prelude.{◌≡◌, ◌≤◌, length, drop, IfSome};
 ghost use Rattle.text.specs.Choice.{all};
 ghost use Rattle.text.specs.Piece.{canonical};
 ghost use Rattle.text.specs.Out.{taken};
@@ -18,7 +18,7 @@ ghost use Rattle.rowtext.specs.Reading.{parted, each, time_group, runway_group, 
 ghost use Rattle.rowtext.specs.Writing.{row_text, WroteRow};
 ghost use Rattle.rowtext.specs.Code.Filling.{RowFound, with_number, with_group, with_rest, may_stand, alone_group, judged, full_rest, fill_group, Filled, FaultAt, HeldWidth};
 
-use fill::{put, put_digits};
+use fill::{has_room, put, put_digits};
 use row::{HIGHEST_RUNWAY, Row, blank_row, is_short, valid_row};
 use runway::{RunwayFound, put_runway, read_runway, real_time, valid_runway};
 use scan::{digits, spaces, word};
@@ -458,26 +458,12 @@ pub fn put_any_row(rest: &mut [u8], row: Row) -> usize
 // No row has a longer text.
 pub const LONGEST_ROW: usize = 147;
 
-// How many bytes the row's text has.
-fn row_size(row: Row) -> usize
-    ensures { result ≡ length (canonical (row_pieces row)) }
-{
-    put_any_row(&mut [0; 1], row)
-}
-
-// The row's text fits into so many bytes: the longest is known, and only a shorter rest is measured against the text.
-fn has_room(room: usize, row: Row) -> bool
-    ensures { result ≡ leb (length (canonical (row_pieces row))) room }
-{
-    LONGEST_ROW <= room || row_size(row) <= room
-}
-
 // Writes the row into the rest of a buffer and answers how many bytes it filled.
 // A row that is not valid or does not fit leaves every byte as it was: 0.
 pub fn write_row(rest: &mut [u8], row: Row) -> usize
     ensures { WroteRow (row_text row) rest.old rest.new result }
 {
-    if !valid_row(row) || !has_room(rest.len(), row) {
+    if !valid_row(row) || !has_room(rest.len(), LONGEST_ROW, |out| put_any_row(out, row)) {
         return 0;
     }
     put_any_row(rest, row)
