@@ -78,7 +78,8 @@ def source_structs():
         for m in re.finditer(r"#\[repr\(C\)\]\s*(?:#\[[^\]]*\]\s*)*pub struct (\w+)\s*\{(.*?)\}", text, re.S):
             if m[1] in found:
                 fail(f"two structs {m[1]} are marked #[repr(C)]")
-            found[m[1]] = pairs(m[2], r"pub (\w+): (.+)")
+            sized = re.sub(r"; ([A-Z]\w*)\]", lambda n: f"; {source_constants(path)[n[1]]}]", m[2])
+            found[m[1]] = pairs(sized, r"pub (\w+): (.+)")
     return found
 
 
@@ -96,6 +97,12 @@ def source_functions():
 
 def source_constants(path):
     return {m[1]: int(m[2]) for m in re.finditer(r"pub const (\w+): \w+ = (\d+);", source(path))}
+
+
+def source_variants(path):
+    """The cases of an enum with their numbers, spelled as constants: NotLater is NOT_LATER, Line1Or2 is LINE_1_OR_2."""
+    spelled = lambda name: re.sub(r"(?<!^)(?=[A-Z])|(?<=[a-z])(?=\d)", "_", name).upper()
+    return {spelled(m[1]): int(m[2]) for m in re.finditer(r"^    (\w+) = (\d+),$", source(path), re.M)}
 
 
 def element(kind):
@@ -294,7 +301,7 @@ class Sources:
     def __init__(self):
         self.structs = source_structs()
         self.functions = source_functions()
-        self.refusals = {"TAKEN": 0, **source_constants("crates/text/src/refusal.rt")}
+        self.refusals = {"TAKEN": 0, **source_variants("crates/text/src/refusal.rt")}
         # C and Rust spell ON out.
         self.descriptions = {n.replace("_ON_", "_ON_TOP_OF_"): v for n, v in source_constants("crates/surface/src/description.rt").items()}
         self.longest = {n: source_constants(f"crates/{crate}/src/lib.rt")[name] for n, (crate, name) in LONGEST.items()}

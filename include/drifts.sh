@@ -38,4 +38,4 @@ try "a field that the header lacks" crates/surface/src/lib.rt 's/^    pub descri
 try "an array's length" include/phengaryl.rs 's/pub name: \[u8; 16\]/pub name: [u8; 17]/'
 try "a parameter's type" include/phengaryl.h 's/phengaryl_read_row(const uint8_t/phengaryl_read_row(uint8_t/'
 try "a function" crates/phengaryl/src/lib.rt 's/fn phengaryl_valid_board/fn phengaryl_is_board/'
-try "a refusal's number" crates/text/src/refusal.rt 's/NOT_LATER: u8 = 20/NOT_LATER: u8 = 22/'
+try "a refusal's number" crates/text/src/refusal.rt 's/NotLater = 20/NotLater = 22/'

@@ -18,8 +18,8 @@ ghost use Rattle.awareness.specs.Code.Named.{in_slots, HeldTaxiways};
 
 use fill::put;
 use items::{
-    APRON_SIZE, BLANK_ITEM, Item, Items, MOST_ITEMS, MOST_TAXIWAYS, TAXIWAY_SIZE, may_follow,
-    numbers_fit, valid_item, words,
+    APRON_SIZE, BLANK_ITEM, Item, Items, MOST_ITEMS, MOST_TAXIWAYS, TAXIWAY_BYTES, TAXIWAY_SIZE,
+    may_follow, numbers_fit, valid_item, words,
 };
 use runway::read_runway;
 use scan::{counted, digits, run, spaces, word};
@@ -44,7 +44,7 @@ struct Detail {
 #[derive(Clone, Copy)]
 struct Taxiways {
     count: u8,
-    taxiways: [u8; 24],
+    taxiways: [u8; TAXIWAY_BYTES],
     next: usize,
 }
 
@@ -214,9 +214,10 @@ fn put_taxiway(taxiways: &mut [u8], count: u8, name: &[u8])
 fn some_taxiways(s: &[u8], i: usize) -> Taxiways
     ensures { HeldTaxiways s.now (read_as in_slots (read_some_taxiways 8) (drop i s.now)) result }
 {
-    let mut taxiways = [0; 24];
+    let mut taxiways = [0; TAXIWAY_BYTES];
     let mut count: u8 = 0;
     let mut at = place(s, i);
+    // stays: no plainer: the count is part of the answer, also where a name ends the loop
     while count < MOST_TAXIWAYS {
         let Some(name) = taxiway(s, at) else {
             break;

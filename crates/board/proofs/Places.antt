@@ -1,139 +1,96 @@
 -- One law for each case of a step of the loops over places.
-use Prim.Native.Nat.{ℕ, suc, ◌+◌, ◌<◌, ◌≤◌}
-use mathlib.Core.Path.{◌≡◌, refl, sym, subst, ◌∙◌, ap}
-use mathlib.Core.List.{List, [], ◌∷◌}
-use mathlib.Core.Bool.{cond, Bool, true, false}
-use lib.Dec.{ltb}
-use lib.ListN.{length, take, drop, get_or, drop_of_length-le}
-use borrow.Author.Tests.{ltb-true, ltb-false, le-leb, eq-eqb}
-use native.Mathlib.Omega.{arith}
+use Rattle.std.specs.Prelude.{ℕ, suc, ◌+◌, ◌-◌, ◌<◌, ◌≤◌, ◌≡◌, List, [], ◌∷◌, cond, ◌&&◌, Bool, true, false, Option, Some, None, MatchOption, ltb, length, take, drop, get_or}
+use Rattle.std.proofs.lemmas.List.Recursion.{is_position_or_len}
+use Rattle.std.proofs.Common.{refl, sym, ◌∙◌, ap, drop_of_length-le, ltb-true, ltb-false, eq-eqb, length-drop, take_all, one-add, arith}
+use Rattle.std.specs.List.{list_all, zip, position_or_len}
 use Rattle.text.specs.Choice.{◌and◌, all}
-use Rattle.text.specs.Laws.Arrays.{next_place, next-used, none_left}
+use Rattle.text.specs.Laws.Arrays.{next_place}
 use Rattle.row.specs.declared.Row.{Row}
 use Rattle.row.specs.Row.{blank_row, is_blank_row}
 use Rattle.board.specs.declared.Runway.{Runway}
-use Rattle.board.specs.Board.{places, is_aerodrome, blank_runway, is_blank_runway, rises, rising, valid_list, names, fits_place, fit_places}
-use Rattle.board.specs.Report.{place_of, newest}
-use Rattle.board.specs.Laws.Rules.{get_d_any}
+use Rattle.board.specs.declared.Board.{Board}
+use Rattle.board.specs.Board.{blank_runway, rises, rising, names, fits_place, fit_places}
+use Rattle.board.specs.Report.{place_of, place_for, refusal, newest}
+use Rattle.board.specs.Laws.Rules.{get_d_any, rules}
+use Rattle.board.proofs.Laws.Rules.{took}
 use Rattle.board.specs.Laws.Latest.{Goods, Upto, upto_next}
 
--- the first n runways of ws, looked at one by one
-module _ (n : ℕ) (ws : List Runway) (i : ℕ) where
-  abbrev left : List Runway
-  left = drop i (take n ws)
-
+-- the runways ws from the place i on, behind v
+module _ (ws : List Runway) (i : ℕ) (v : Runway) where
   abbrev here : Runway
   here = get_or ws i blank_runway
 
-  pub rise-past : (v : Runway) → n ≤ i → true ≡ rising v left
+  pub rise_end : length ws ≤ i → true ≡ rising v (drop i ws)
   unfolding rising
-  rise-past v h = rw (none_left ws n i (omega arith))
+  rise_end h = rw (drop_of_length-le ws h)
 
-  pub rise-end : (v : Runway) → length ws ≤ i → true ≡ rising v left
-  unfolding rising
-  rise-end v h = rw (none_left ws n i (omega arith))
-
-  pub place-past : (r : Row) → n ≤ i → place_of r left ≡ 0
-  unfolding place_of
-  place-past r h = rw (none_left ws n i (omega arith))
-
-  pub place_end : (r : Row) → length ws ≤ i → place_of r left ≡ 0
-  unfolding place_of
-  place_end r h = rw (none_left ws n i (omega arith))
-
-  module _ (f : i < length ws) (h : i < n) where
-    pub rise-on : (v : Runway) → rises v here ≡ true → rising v left ≡ rising here (drop (i + 1) (take n ws))
+  module _ (h : i < length ws) where
+    pub rise_on : rises v here ≡ true → rising v (drop i ws) ≡ rising here (drop (i + 1) ws)
     unfolding rising ◌and◌
-    rise-on v e = ap (rising v) (next-used blank_runway ws i n h f) ∙ rw e
+    rise_on e = rw (next_place blank_runway ws i h, e)
 
-    pub rise-off : (v : Runway) → rises v here ≡ false → false ≡ rising v left
+    pub rise_off : rises v here ≡ false → false ≡ rising v (drop i ws)
     unfolding rising ◌and◌
-    rise-off v e = sym (ap (rising v) (next-used blank_runway ws i n h f) ∙ rw e)
+    rise_off e = rw (next_place blank_runway ws i h, e)
 
-    pub place-hit : (r : Row) → names r here ≡ true → place_of r left ≡ 0
-    unfolding place_of
-    place-hit r e = ap (place_of r) (next-used blank_runway ws i n h f) ∙ rw e
+-- the first runway that the row names
+pub place-found : (r : Row) (ws : List Runway) {o : Option ℕ}
+    → o ≡ cond (ltb (position_or_len (names r) ws) (length ws)) (Some (position_or_len (names r) ws)) None
+    → MatchOption o (place_of r ws ≡ length ws) (λ i. (i ≡ place_of r ws) × (i < length ws))
+unfolding place_of
+place-found r ws e = rw (e, ← first) (go (ltb (place_of r ws) (length ws)) refl)
+  where
+    -- it is where the library looks for it
+    first : place_of r ws ≡ position_or_len (names r) ws
+    first = is_position_or_len (place_of r) (names r) refl (λ w k. rw one-add) ws
 
-    pub place-miss : (r : Row) → names r here ≡ false → place_of r left ≡ suc (place_of r (drop (i + 1) (take n ws)))
-    unfolding place_of
-    place-miss r e = ap (place_of r) (next-used blank_runway ws i n h f) ∙ rw e
+    within : (ws : List Runway) → place_of r ws ≤ length ws
+    within [] = omega arith
+    within (w ∷ ws) = go (names r w) (within ws)
+      where
+        go : (t : Bool) → place_of r ws ≤ length ws → cond t 0 (suc (place_of r ws)) ≤ suc (length ws)
+        go true h = omega arith
+        go false h = omega arith
 
--- zeros from a place on
-module _ {A : Type 0} (p : A → Bool) (d : A) (l : List A) (i : ℕ) where
-  pub all_end : length l ≤ i → true ≡ all p (drop i l)
-  all_end h = rw (drop_of_length-le l h)
+    go : (t : Bool) → ltb (place_of r ws) (length ws) ≡ t
+        → MatchOption (cond t (Some (place_of r ws)) None) (place_of r ws ≡ length ws) (λ i. (i ≡ place_of r ws) × (i < length ws))
+    go true h = (refl, ltb-true _ _ h)
+    go false h = let k = ltb-false _ _ h in let w = within ws in omega arith
 
-  pub all-on : i < length l → p (get_or l i d) ≡ true → all p (drop i l) ≡ all p (drop (i + 1) l)
-  unfolding ◌and◌
-  all-on h e = ap (all p) (next_place d l i h) ∙ rw e
+-- rows in their places, and zeros behind them
+pub fit_split : (ws : List Runway) (rs : List Row) → fit_places ws rs ≡ (list_all (λ p. fits_place p.0 p.1) (zip ws rs) and all is_blank_row (drop (length ws) rs))
+unfolding fit_places ◌and◌
+fit_split [] rs = refl
+fit_split (w ∷ ws) [] = refl
+fit_split (w ∷ ws) (r ∷ rs) = go (fits_place w r) _ _ (fit_split ws rs)
+  where
+    go : (t a b : Bool) {c : Bool} → c ≡ (a and b) → (t and c) ≡ ((t && a) and b)
+    go true a b e = e
+    go false a b e = refl
 
-  pub all-off : i < length l → p (get_or l i d) ≡ false → false ≡ all p (drop i l)
-  unfolding ◌and◌
-  all-off h e = sym (ap (all p) (next_place d l i h) ∙ rw e)
+-- of an array of n places, those from i on
+pub rest_all : {A : Type 0} (n i : ℕ) (l : List A) → length l ≡ n → take (n - i) (drop i l) ≡ drop i l
+rest_all n i l e = take_all (n - i) (drop i l) (simp length-drop (omega arith))
 
--- the first n of a list, looked at one by one
-module _ {A : Type 0} (p : A → Bool) (d : A) (n : ℕ) (l : List A) (i : ℕ) where
-  pub used-end : length l ≤ i → true ≡ all p (drop i (take n l))
-  used-end h = rw (none_left l n i (omega arith))
+-- what a place holds does not depend on what stands for a row outside
+pub row-there : (d : Row) (rs : List Row) (i : ℕ) → i < length rs → get_or rs i d ≡ get_or rs i blank_row
+row-there d rs i h = get_d_any d blank_row rs i h
 
-  pub used-past : n ≤ i → true ≡ all p (drop i (take n l))
-  used-past h = rw (none_left l n i (omega arith))
+-- the latest time of the places looked at is t before the place i
+module _ (rs : List Row) (d : Row) (i t : ℕ) (g : Goods rs) (h : i < length rs) (u : Upto rs i t) where
+  same : get_or rs i d ≡ get_or rs i blank_row
+  same = row-there d rs i h
 
-  module _ (f : i < length l) (h : i < n) where
-    pub used-on : p (get_or l i d) ≡ true → all p (drop i (take n l)) ≡ all p (drop (i + 1) (take n l))
-    unfolding ◌and◌
-    used-on e = ap (all p) (next-used d l i n h f) ∙ rw e
+  pub time-stays : is_blank_row (get_or rs i d) ≡ true → Upto rs (i + 1) t
+  time-stays e = rw (ap is_blank_row (sym same) ∙ e) at (upto_next rs i t g h u)
 
-    pub used-off : p (get_or l i d) ≡ false → false ≡ all p (drop i (take n l))
-    unfolding ◌and◌
-    used-off e = sym (ap (all p) (next-used d l i n h f) ∙ rw e)
+  pub time-next : (v : ℕ) → is_blank_row (get_or rs i d) ≡ false → v ≡ newest t (get_or rs i d).time → Upto rs (i + 1) v
+  time-next v e q = rw (q, same) (rw (ap is_blank_row (sym same) ∙ e) at (upto_next rs i t g h u))
 
--- rows in their places
-module _ (n : ℕ) (ws : List Runway) (rs : List Row) (i : ℕ) (d : Row) where
-  abbrev fits : Bool
-  fits = cond (ltb i n) (fits_place (get_or ws i blank_runway) (get_or rs i d)) (is_blank_row (get_or rs i d))
-
-  fit_next : i < length ws → i < length rs → fit_places (drop i (take n ws)) (drop i rs) ≡ (fits and fit_places (drop (i + 1) (take n ws)) (drop (i + 1) rs))
-  unfolding fit_places
-  fit_next f h = ap (fit_places (drop i (take n ws))) (next_place d rs i h) ∙ go (ltb i n) refl
-    where
-      go : (t : Bool) → ltb i n ≡ t → fit_places (drop i (take n ws)) (get_or rs i d ∷ drop (i + 1) rs)
-          ≡ (cond t (fits_place (get_or ws i blank_runway) (get_or rs i d)) (is_blank_row (get_or rs i d)) and fit_places (drop (i + 1) (take n ws)) (drop (i + 1) rs))
-      go true e = let k = ltb-true i n e in ap (λ l. fit_places l (get_or rs i d ∷ drop (i + 1) rs)) (next-used blank_runway ws i n k f)
-      go false e =
-          let k = ltb-false i n e in
-          ap (λ l. fit_places l (get_or rs i d ∷ drop (i + 1) rs)) (none_left ws n i (omega arith))
-          ∙ ap (λ l. is_blank_row (get_or rs i d) and fit_places l (drop (i + 1) rs)) (sym (none_left ws n (i + 1) (omega arith)))
-
-  pub fit_on : i < length ws → i < length rs → fits ≡ true → fit_places (drop i (take n ws)) (drop i rs) ≡ fit_places (drop (i + 1) (take n ws)) (drop (i + 1) rs)
-  unfolding ◌and◌
-  fit_on f h e = fit_next f h ∙ rw e
-
-  pub fit-off : i < length ws → i < length rs → fits ≡ false → false ≡ fit_places (drop i (take n ws)) (drop i rs)
-  unfolding ◌and◌
-  fit-off f h e = sym (fit_next f h ∙ rw e)
-
--- the latest time of the places looked at: t before the place i, u with it
-pub time-next : (rs : List Row) (d : Row) (i t u : ℕ) → Goods rs → i < length rs → Upto rs i t
-    → u ≡ cond (is_blank_row (get_or rs i d)) t (newest t (get_or rs i d).time) → Upto rs (i + 1) u
-time-next rs d i t u g l k e =
-    subst (Upto rs (i + 1)) (sym (e ∙ ap (λ p. cond (is_blank_row p) t (newest t p.time)) (get_d_any d blank_row rs i l))) (upto_next rs i t g l k)
-
-pub fit-end : (ws : List Runway) (rs : List Row) (i : ℕ) → length rs ≤ i → true ≡ fit_places ws (drop i rs)
-unfolding fit_places
-fit-end [] rs i h = rw (drop_of_length-le rs h)
-fit-end (w ∷ ws) rs i h = rw (drop_of_length-le rs h)
-
--- a list of the right size, its runways looked at
-module _ (a : List ℕ) (n : ℕ) (ws : List Runway) (letters : is_aerodrome a ≡ true) (some : 1 ≤ n) (few : n ≤ places) (wide : length ws ≡ places) where
-  looked : valid_list a n ws ≡ (rising blank_runway (take n ws) and all is_blank_runway (drop n ws))
-  unfolding valid_list ◌and◌
-  looked = rw (letters, le-leb 1 n some, le-leb n places few, eq-eqb (length ws) places wide)
-
-  pub list_on : rising blank_runway (take n ws) ≡ true → all is_blank_runway (drop n ws) ≡ valid_list a n ws
-  unfolding ◌and◌
-  list_on e = sym (looked ∙ rw e)
-
-  pub list-off : rising blank_runway (take n ws) ≡ false → false ≡ valid_list a n ws
-  unfolding ◌and◌
-  list-off e = sym (looked ∙ rw e)
+-- the place that a taken report is stored in
+pub took-within : (b : Board) (d : ℕ) (r : Row) (i : ℕ) → (refusal b d r ≡ 0) × (i ≡ place_for b r) → i < 8
+took-within b d r i e =
+    let t = took b d r (eq-eqb (refusal b d r) 0 e.0) in
+    let f = (rules b t.good).few in
+    let p = t.place in
+    omega arith

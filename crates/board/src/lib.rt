@@ -3,11 +3,13 @@
 
 #![tactic(auto)]
 
-ghost use Rattle.std.specs.Prelude.{◌≡◌, ltb, take, drop, cond};
+ghost use Rattle.std.specs.Prelude.{◌≡◌, ◌<◌, ◌≤◌, length, take, MatchOption, MatchResult};
+ghost use Rattle.std.specs.List.{list_all, zip};
 ghost use Rattle.text.specs.Choice.{all};
+ghost use Rattle.text.specs.Refusals.{number};
 ghost use Rattle.row.specs.Row.{is_blank_row};
-ghost use Rattle.board.specs.Board.{is_aerodrome, blank_runway, is_blank_runway, comes_before, rises, rising, valid_list, names, fits_place, valid_places, latest_shown, is_desk, valid_owners, valid_opening, valid_board, blank_board, opening, refused_opening};
-ghost use Rattle.board.specs.Report.{place_of, is_news, place_for, refusal, newest, report};
+ghost use Rattle.board.specs.Board.{is_aerodrome, blank_runway, is_blank_runway, rises, rising, names, fits_place, fit_places, latest_shown, is_desk, valid_opening, valid_board, blank_board, answer, opening, refused_opening};
+ghost use Rattle.board.specs.Report.{place_of, place_for, is_news, refusal, newest, report};
 ghost use Rattle.board.specs.Laws.Latest.{Goods};
 
 use body::later_of;
@@ -15,10 +17,12 @@ use frontlines::read_aerodrome;
 use row::{HIGHEST_RUNWAY, Row, blank_row, is_blank_row, valid_row};
 use runway::{is_later, valid_runway};
 use scan::zeros_from;
-use text::refusal;
+use text::refusal::Refusal;
 
+// Runways rise by number, and then by side.
+// stays: C interface
 #[repr(C)]
-#[derive(Clone, Copy)]
+#[derive(Clone, Copy, PartialEq, Eq, PartialOrd, Ord)]
 pub struct Runway {
     pub number: u8,
     // 0 none, 1 L, 2 C, 3 R
@@ -26,6 +30,7 @@ pub struct Runway {
 }
 
 // Zeros in every place that is unused or unreported.
+// stays: C interface
 #[repr(C)]
 #[derive(Clone, Copy)]
 pub struct Board {
@@ -47,9 +52,11 @@ pub struct Sent {
 }
 
 // A refusal number, 0 for taken, and the board afterwards.
+// stays: C interface
 #[repr(C)]
 #[derive(Clone, Copy)]
 pub struct Answer {
+    // stays: C interface: 0, or the number of a refusal
     pub refusal: u8,
     pub board: Board,
 }
@@ -65,207 +72,119 @@ pub const BLANK_RUNWAY: Runway = Runway { number: 0, side: 0 };
 fn is_aerodrome(a: [u8; 4]) -> bool
     ensures { result ≡ is_aerodrome a }
 {
-    read_aerodrome(&a).fits
+    read_aerodrome(&a).is_some()
 }
 
+#[tactic(auto, using(text::specs::Laws::Tests::and_is), unfolding(crate::specs::Board::is_blank_runway))]
 fn is_blank_runway(w: Runway) -> bool
     ensures { result ≡ is_blank_runway w }
 {
-    if w.number == 0 {
-        return w.side == 0;
-    }
-    false
-}
-
-// By number, then none, L, C, R.
-fn comes_before(v: Runway, w: Runway) -> bool
-    ensures { result ≡ comes_before v w }
-{
-    if v.number == w.number {
-        return v.side < w.side;
-    }
-    v.number < w.number
+    w == BLANK_RUNWAY
 }
 
 // A runway that may stand behind `v` in a list.
+#[tactic(auto, using(text::specs::Laws::Tests::and_is), unfolding(crate::specs::Board::rises, crate::specs::Board::comes_before))]
 fn rises(v: Runway, w: Runway) -> bool
     ensures { result ≡ rises v w }
 {
-    if valid_runway(HIGHEST_RUNWAY, w.number, w.side) {
-        return comes_before(v, w);
-    }
-    false
+    valid_runway(HIGHEST_RUNWAY, w.number, w.side) && v < w
 }
 
-// The first `count` runways rise.
-fn all_rise(count: usize, runways: [Runway; 8]) -> bool
-    ensures { result ≡ rising blank_runway (take count runways) }
+#[tactic(auto, using(crate::proofs::Places::rise_end, crate::proofs::Places::rise_on, crate::proofs::Places::rise_off))]
+fn all_rise(runways: &[Runway]) -> bool
+    ensures { result ≡ rising blank_runway runways.now }
 {
     let mut last = BLANK_RUNWAY;
-    let mut i: usize = 0;
-    while i < PLACES {
-        if count <= i {
-            return true;
-        }
-        let w = runways[i];
-        if rises(last, w) {
-            last = w;
-            i += 1;
-        } else {
+    for &w in runways {
+        if !rises(last, w) {
             return false;
         }
+        last = w;
     }
     true
 }
 
-// Zeros stand from `count` on.
-fn rest_blank(count: usize, runways: [Runway; 8]) -> bool
-    ensures { result ≡ all is_blank_runway (drop count runways) }
+fn all_blank(runways: &[Runway]) -> bool
+    ensures { result ≡ all is_blank_runway runways.now }
 {
-    let mut i = count;
-    while i < PLACES {
-        if is_blank_runway(runways[i]) {
-            i += 1;
-        } else {
-            return false;
-        }
-    }
-    true
+    runways.iter().all(|&w| is_blank_runway(w))
 }
 
-// An aerodrome and a list of runways.
-fn valid_list(aerodrome: [u8; 4], count: u8, runways: [Runway; 8]) -> bool
-    ensures { result ≡ valid_list aerodrome count runways }
-{
-    if is_aerodrome(aerodrome) {
-        if count < 1 {
-            return false;
-        }
-        if MOST_RUNWAYS < count {
-            return false;
-        }
-        let n = count as usize;
-        if all_rise(n, runways) {
-            return rest_blank(n, runways);
-        }
-    }
-    false
-}
-
-fn names(r: Row, w: Runway) -> bool
-    ensures { result ≡ names r w }
-{
-    if r.number == w.number {
-        return r.side == w.side;
-    }
-    false
-}
-
+#[tactic(auto, unfolding(crate::specs::Board::is_desk))]
 fn is_desk(desk: u32) -> bool
     ensures { result ≡ is_desk desk }
 {
-    if 1 == desk {
-        return true;
-    }
-    2 == desk
+    matches!(desk, 1 | 2)
 }
 
-// The first `count` owners are desks.
-fn all_desks(count: usize, owners: [u8; 8]) -> bool
-    ensures { result ≡ all is_desk (take count owners) }
+fn all_desks(owners: &[u8]) -> bool
+    ensures { result ≡ all is_desk owners.now }
 {
-    let mut i: usize = 0;
-    while i < PLACES {
-        if count <= i {
-            return true;
-        }
-        let owner = owners[i];
-        if is_desk(owner as u32) {
-            i += 1;
-        } else {
-            return false;
-        }
-    }
-    true
+    owners.iter().all(|&owner| is_desk(u32::from(owner)))
 }
 
-// A desk for each of `count` runways, and zeros behind them.
-fn valid_owners(count: usize, owners: [u8; 8]) -> bool
-    ensures { result ≡ valid_owners count owners }
-{
-    if all_desks(count, owners) {
-        return zeros_from(&owners, count);
-    }
-    false
-}
-
-// An aerodrome, a list of runways and their owners that opening takes.
+// What opening takes: an aerodrome, 1 to 8 runways that rise, and a desk for each, with zeros behind them.
+#[tactic(auto, using(text::specs::Laws::Tests::and_is, crate::proofs::Places::rest_all), unfolding(crate::specs::Board::valid_list, crate::specs::Board::valid_owners, crate::specs::Board::valid_opening))]
 fn valid_opening(aerodrome: [u8; 4], count: u8, runways: [Runway; 8], owners: [u8; 8]) -> bool
     ensures { result ≡ valid_opening aerodrome count runways owners }
 {
-    if valid_list(aerodrome, count, runways) {
-        return valid_owners(count as usize, owners);
-    }
-    false
+    let n = usize::from(count);
+    is_aerodrome(aerodrome)
+        && 1 <= n
+        && n <= PLACES
+        && all_rise(&runways[..n])
+        && all_blank(&runways[n..])
+        && all_desks(&owners[..n])
+        && zeros_from(&owners, n)
+}
+
+#[tactic(auto, using(text::specs::Laws::Tests::and_is), unfolding(crate::specs::Board::names))]
+fn names(r: Row, w: Runway) -> bool
+    ensures { result ≡ names r w }
+{
+    r.number == w.number && r.side == w.side
 }
 
 // A shown row is valid and stands in its own runway's place.
+#[tactic(auto, using(text::specs::Laws::Tests::and_is), unfolding(crate::specs::Board::fits_place))]
 fn fits_place(w: Runway, r: Row) -> bool
     ensures { result ≡ fits_place w r }
 {
-    if is_blank_row(r) {
-        return true;
-    }
-    if valid_row(r) {
-        return names(r, w);
-    }
-    false
+    is_blank_row(r) || (valid_row(r) && names(r, w))
 }
 
-// The place `i` of a board with `count` runways; an unused one is zero.
-fn place_fits(i: usize, count: usize, w: Runway, r: Row) -> bool
-    ensures { result ≡ cond (ltb i count) (fits_place w r) (is_blank_row r) }
+// Each row stands in its own runway's place.
+fn all_fit(runways: &[Runway], rows: &[Row]) -> bool
+    ensures { result ≡ list_all (λ p. fits_place p.0 p.1) (zip runways.now rows.now) }
 {
-    if i < count {
-        return fits_place(w, r);
-    }
-    is_blank_row(r)
+    runways.iter().zip(rows).all(|(&w, &r)| fits_place(w, r))
 }
 
-fn valid_places(count: usize, runways: [Runway; 8], rows: [Row; 8]) -> bool
-    ensures { result ≡ valid_places count runways rows }
+fn all_unreported(rows: &[Row]) -> bool
+    ensures { result ≡ all is_blank_row rows.now }
 {
-    let mut i: usize = 0;
-    while i < PLACES {
-        let w = runways[i];
-        let r = rows[i];
-        if place_fits(i, count, w, r) {
-            i += 1;
-        } else {
-            return false;
-        }
-    }
-    true
+    rows.iter().all(|&r| is_blank_row(r))
+}
+
+// Each row shown stands in its own runway's place, and zeros in every place past the runways.
+#[tactic(auto, using(text::specs::Laws::Tests::and_is, crate::proofs::Places::fit_split, crate::proofs::Places::rest_all))]
+fn fit_places(runways: &[Runway], rows: &[Row]) -> bool
+    requires { length runways.now ≤ length rows.now }
+    ensures { result ≡ fit_places runways.now rows.now }
+{
+    all_fit(runways, rows) && all_unreported(&rows[runways.len()..])
 }
 
 // Of a stored time and a row's the later; where none is stored, the row's.
+#[tactic(auto, unfolding(crate::specs::Report::newest))]
 fn newest(latest: u32, time: u32) -> u32
     ensures { result ≡ newest latest time }
 {
     if latest == 0 {
-        return time;
+        time
+    } else {
+        later_of(latest, time)
     }
-    later_of(latest, time)
-}
-
-// A place's part in the latest time: a blank one has none.
-fn with_place(latest: u32, r: Row) -> u32
-    ensures { result ≡ cond (is_blank_row r) latest (newest latest r.time) }
-{
-    if is_blank_row(r) {
-        return latest;
-    }
-    newest(latest, r.time)
 }
 
 // The latest time of the rows shown, 0 where none is: only to judge a board that is handed in.
@@ -273,158 +192,153 @@ fn latest_shown(rows: [Row; 8]) -> u32
     requires { Goods rows }
     ensures { result ≡ latest_shown rows }
 {
-    let mut latest: u32 = 0;
-    let mut i: usize = 0;
-    while i < PLACES {
-        let r = rows[i];
-        latest = with_place(latest, r);
-        i += 1;
+    let mut latest = 0;
+    for &r in &rows {
+        if !is_blank_row(r) {
+            latest = newest(latest, r.time);
+        }
     }
     latest
 }
 
+impl Board {
+    // The runways that the board has.
+    fn used(&self) -> &[Runway]
+        requires { self.now.count ≤ 8 }
+        ensures { result.now ≡ take self.now.count self.now.runways }
+    {
+        &self.runways[..usize::from(self.count)]
+    }
+}
+
 // Whether a board that is handed in keeps its rules.
+#[tactic(auto, using(text::specs::Laws::Tests::and_is), unfolding(crate::specs::Board::valid_places, crate::specs::Board::valid_board))]
 pub fn valid_board(b: Board) -> bool
     ensures { result ≡ valid_board b }
 {
-    let aerodrome = b.aerodrome;
-    let runways = b.runways;
-    let owners = b.owners;
-    if valid_opening(aerodrome, b.count, runways, owners) {
-        let rows = b.rows;
-        if valid_places(b.count as usize, runways, rows) {
-            return b.latest == latest_shown(rows);
-        }
-    }
-    false
+    valid_opening(b.aerodrome, b.count, b.runways, b.owners)
+        && fit_places(b.used(), &b.rows)
+        && b.latest == latest_shown(b.rows)
 }
 
 // ---- Opening
 
-fn blank_board() -> Board
+pub fn blank_board() -> Board
     ensures { result ≡ blank_board }
 {
-    let r = blank_row();
     Board {
         aerodrome: [0; 4],
         count: 0,
         runways: [BLANK_RUNWAY; 8],
         owners: [0; 8],
         latest: 0,
-        rows: [r; 8],
+        rows: [blank_row(); 8],
     }
 }
 
 pub fn refused_opening() -> Answer
     ensures { result ≡ refused_opening }
 {
-    let b = blank_board();
     Answer {
-        refusal: refusal::WRONG_BOARD,
-        board: b,
+        refusal: Refusal::WrongBoard.number(),
+        board: blank_board(),
     }
 }
 
 // A board of an aerodrome and 1 to 8 rising runways with their owners, nothing reported; 17 and the blank board where they are none.
+// stays: C interface
+#[tactic(auto, unfolding(crate::specs::Board::opening))]
 pub fn open(aerodrome: [u8; 4], count: u8, runways: [Runway; 8], owners: [u8; 8]) -> Answer
     ensures { result ≡ opening aerodrome count runways owners }
 {
-    if valid_opening(aerodrome, count, runways, owners) {
-        let r = blank_row();
-        let b = Board {
+    if !valid_opening(aerodrome, count, runways, owners) {
+        return refused_opening();
+    }
+    Answer {
+        refusal: 0,
+        board: Board {
             aerodrome,
             count,
             runways,
             owners,
             latest: 0,
-            rows: [r; 8],
-        };
-        return Answer {
-            refusal: 0,
-            board: b,
-        };
+            rows: [blank_row(); 8],
+        },
     }
-    refused_opening()
 }
 
 // ---- Reports
 
-// The place of the row's runway, or the count where the board has none.
-fn place_of(r: Row, count: usize, runways: [Runway; 8]) -> usize
-    ensures { result ≡ place_of r (take count runways) }
+// The place of the row's runway.
+fn place_of(r: Row, runways: &[Runway]) -> Option<usize>
+    ensures { MatchOption result (place_of r runways.now ≡ length runways.now) (λ i. (i ≡ place_of r runways.now) × (i < length runways.now)) }
 {
-    let mut i: usize = 0;
-    while i < PLACES {
-        if count <= i {
-            return i;
-        }
-        if names(r, runways[i]) {
-            return i;
-        }
-        i += 1;
-    }
-    i
+    runways.iter().position(|&w| names(r, w))
 }
 
 // Observed later than the row shown, if there is one.
+#[tactic(auto, unfolding(crate::specs::Report::is_news))]
 fn is_news(r: Row, shown: Row) -> bool
     ensures { result ≡ is_news r shown }
 {
-    if is_blank_row(shown) {
-        return true;
-    }
-    is_later(r.time, shown.time)
+    is_blank_row(shown) || is_later(r.time, shown.time)
 }
 
-// The first thing that is wrong with a report whose runway has the place `i`: 17, 23, 19, 18, 22, 20; 0 where nothing is.
-fn refusal_at(b: Board, desk: u32, r: Row, i: usize) -> u8
-    requires { i ≡ place_for b r }
-    ensures { result ≡ refusal b desk r }
+// The place that a report is stored in, or the first thing that is wrong with it: 17, 23, 19, 18, 22, 20.
+#[tactic(auto, unfolding(crate::specs::Report::refusal))]
+fn place_taken(b: &Board, x: Sent) -> Result<usize, Refusal>
+    ensures { MatchResult result
+        (λ i. (refusal b.now x.desk x.row ≡ 0) × (i ≡ place_for b.now x.row))
+        (λ e. refusal b.now x.desk x.row ≡ number e) }
 {
-    if !valid_board(b) {
-        return refusal::WRONG_BOARD;
+    if !valid_board(*b) {
+        return Err(Refusal::WrongBoard);
     }
-    if !is_desk(desk) {
-        return refusal::NO_DESK;
+    if !is_desk(x.desk) {
+        return Err(Refusal::NoDesk);
     }
-    if !valid_row(r) {
-        return refusal::INVALID_ROW;
+    if !valid_row(x.row) {
+        return Err(Refusal::InvalidRow);
     }
-    if b.count as usize <= i {
-        return refusal::NOT_ON_BOARD;
+    let Some(i) = place_of(x.row, b.used()) else {
+        return Err(Refusal::NotOnBoard);
+    };
+    if x.desk != u32::from(b.owners[i]) {
+        return Err(Refusal::OthersRunway);
     }
-    let owner = b.owners[i];
-    if desk != owner as u32 {
-        return refusal::OTHERS_RUNWAY;
+    if !is_news(x.row, b.rows[i]) {
+        return Err(Refusal::NotLater);
     }
-    let shown = b.rows[i];
-    if !is_news(r, shown) {
-        return refusal::NOT_LATER;
-    }
-    0
+    Ok(i)
+}
+
+// The board with the report stored.
+#[tactic(auto, unfolding(crate::specs::Report::report))]
+fn after_report(b: Board, x: Sent) -> Result<Board, Refusal>
+    ensures { MatchResult result (λ c. report b x.desk x.row ≡ answer 0 c) (λ e. report b x.desk x.row ≡ answer (number e) b) }
+{
+    let i = place_taken(&b, x)?;
+    let mut next = b;
+    next.latest = newest(b.latest, x.row.time);
+    next.rows[i] = x.row;
+    Ok(next)
 }
 
 // A report is taken only from the desk that owns its runway, and only if observed later than the row shown; refused, the board stays as it was.
 pub fn report(b: Board, x: Sent) -> Answer
     ensures { result ≡ report b x.desk x.row }
 {
-    let r = x.row;
-    let runways = b.runways;
-    let i = place_of(r, b.count as usize, runways);
-    let refusal = refusal_at(b, x.desk, r, i);
-    if refusal != 0 {
-        return Answer { refusal, board: b };
-    }
-    let mut next = b;
-    next.latest = newest(b.latest, r.time);
-    next.rows[i] = r;
-    Answer {
-        refusal,
-        board: next,
+    match after_report(b, x) {
+        Ok(board) => Answer { refusal: 0, board },
+        Err(refusal) => Answer {
+            refusal: refusal.number(),
+            board: b,
+        },
     }
 }
 
 // The desk's step: the board is updated in its place, and the refusal number answered.
+// stays: document 01 names the thin function over `&mut Board`
 pub fn take_report(board: &mut Board, x: Sent) -> u8
     ensures { (board.new ≡ (report board.old x.desk x.row).board) × (result ≡ (report board.old x.desk x.row).refusal) }
 {

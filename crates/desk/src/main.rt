@@ -4,7 +4,7 @@
 
 ghost use Rattle.std.specs.Prelude.{◌≤◌, length};
 
-use desktext::{OVER, State, feed, finish, start};
+use desktext::{Standing, State, feed, finish, start};
 use std::io::{self, Read};
 
 const PIECE: usize = 4096;
@@ -21,8 +21,7 @@ fn take_piece(rt: &impl Print, before: State, piece: &[u8]) -> io::Result<State>
 {
     let mut text = [0; ROOM];
     let fed = feed(before, piece, &mut text, 0);
-    let n = fed.behind;
-    rt.write_all(&text[..n])?;
+    rt.write_all(&text[..fed.behind])?;
     Ok(fed.state)
 }
 
@@ -44,8 +43,7 @@ fn main(rt: HostRuntime) -> io::Result<()> {
             return end(&rt, state);
         }
         state = take_piece(&rt, state, &piece[..n])?;
-        let standing = state.standing;
-        if standing.phase == OVER {
+        if let Standing::Over = state.standing {
             return Ok(());
         }
     }

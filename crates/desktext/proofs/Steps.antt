@@ -6,56 +6,35 @@ use mathlib.Core.Bool.{cond, Bool, true, false}
 use native.Mathlib.Numerals.{add-one}
 use native.Mathlib.Omega.{arith}
 use lib.Dec.{eqb, leb}
-use lib.ListN.{length, take, drop, get_or, set, length-drop, drop_of_length-le}
+use lib.ListN.{length, take, drop, get_or, length-drop, drop_of_length-le}
 use lib.Seq.{take_all, drop-cons}
-use borrow.Author.Tests.{ne_eqb, lt-ltb, le-ltb, leb-true, leb-false}
+use borrow.Author.Tests.{ne_eqb, leb-true, leb-false}
 use Rattle.text.specs.Put.{Put}
 use Rattle.text.specs.Code.Held.{Reached}
 use Rattle.text.specs.Laws.Held.{one_place}
 use Rattle.text.specs.Laws.Put.{more}
 use Rattle.board.specs.declared.Board.{Board}
-use Rattle.board.specs.Board.{places}
-use Rattle.board.specs.Report.{row_at}
+use Rattle.row.specs.declared.Row.{Row}
+use Rattle.row.specs.Row.{blank_row}
+use Rattle.board.specs.Laws.Rules.{get_d_any}
 use Rattle.desktext.specs.declared.Standing.{Standing}
 use Rattle.desktext.specs.declared.State.{State}
-use Rattle.desktext.specs.Line.{opening_line, report_line, shown_text}
-use Rattle.desktext.specs.Desk.{answer_line, shown_rows, refused_text, desk_text}
-use Rattle.desktext.specs.Pieces.{keeping, standing, opened_standing, opened_line, after_line, line_answer, end_answer, most_kept, begun, without_return}
-use Rattle.desktext.specs.Pieces.{start_state, after_byte, byte_answer, fed_state, fed_text, last_standing, last_text, finish_text, pieces_text}
+use Rattle.desktext.specs.Line.{shown_text}
+use Rattle.desktext.specs.Desk.{shown_rows, desk_text, desk_board}
+use Rattle.desktext.specs.Pieces.{after_line, line_answer, board_of, begun, kept_byte, without_return}
+use Rattle.desktext.specs.Pieces.{start_state, after_byte, byte_answer, fed_state, fed_text, last_standing, finish_text, pieces_text}
+use Rattle.desktext.specs.Laws.Pieces.{whole-board}
 use Rattle.desktext.specs.Theorems.{pieces}
 
 -- one place more
-pub rows_more : (i : ℕ) (b : Board) → shown_rows (i + 1) b ≡ shown_rows i b ++ shown_text (row_at b i)
+pub rows_more : (b : Board) (i : ℕ) (d : Row) {at p q : ℕ} {first now' then' : List ℕ} → i < length b.rows → Put at (shown_rows i b) first now' p
+    → Put p (shown_text (get_or b.rows i d)) now' then' q → Put at (shown_rows (i + 1) b) first then' q
 unfolding shown_rows
-rows_more i b = rw add-one
+rows_more b i d h before here = rw (add-one, get_d_any blank_row d b.rows i h) (more before here)
 
--- ---- Where the desk stands
-
-module _ (d : Standing) (l : List ℕ) where
-  pub when-waiting : d.phase ≡ 0 → (after_line d l ≡ opened_standing (opening_line l)) × (line_answer d l ≡ opened_line (opening_line l))
-  unfolding after_line line_answer
-  when-waiting e = rw e (refl, refl)
-
-  pub when-keeping : d.phase ≡ 1 → (after_line d l ≡ standing keeping (report_line d.board l).board) × (line_answer d l ≡ answer_line (report_line d.board l).refusal)
-  unfolding after_line line_answer
-  when-keeping e = rw e (refl, refl)
-
-  pub when-over : (d.phase ≡ 0 → ⊥) → (d.phase ≡ 1 → ⊥) → (after_line d l ≡ d) × (line_answer d l ≡ [])
-  unfolding after_line line_answer
-  when-over e f = rw (ne_eqb d.phase 0 e, ne_eqb d.phase 1 f) (refl, refl)
-
-module _ (d : Standing) where
-  pub end-waiting : d.phase ≡ 0 → end_answer d ≡ refused_text
-  unfolding end_answer
-  end-waiting e = rw e
-
-  pub end-keeping : d.phase ≡ 1 → end_answer d ≡ shown_rows places d.board
-  unfolding end_answer
-  end-keeping e = rw e
-
-  pub end-over : (d.phase ≡ 0 → ⊥) → (d.phase ≡ 1 → ⊥) → end_answer d ≡ []
-  unfolding end_answer
-  end-over e f = rw (ne_eqb d.phase 0 e, ne_eqb d.phase 1 f)
+-- of eight places
+pub rows_all : (b : Board) (i : ℕ) {at p : ℕ} {first now' : List ℕ} → i ≡ 8 → Put at (shown_rows i b) first now' p → Put at (shown_rows 8 b) first now' p
+rows_all b i {at} {p} {first} {now'} e h = subst (λ n. Put at (shown_rows n b) first now' p) e h
 
 -- ---- The CR before an LF
 
@@ -82,33 +61,22 @@ return-length x (y ∷ l) = ap suc (return-length y l) ∙ go (eqb (get_or (y �
     go true = refl
     go false = refl
 
-pub return-none : (l : List ℕ) → length l ≡ 0 → 0 ≡ length (without_return l)
-unfolding without_return
-return-none [] h = refl
-return-none (x ∷ l) h = absurd (omega arith)
-
-pub return-on : (l : List ℕ) → 0 < length l → get_or l (length l - 1) 0 ≡ 13 → length l - 1 ≡ length (without_return l)
-return-on [] h e = absurd (omega arith)
-return-on (x ∷ l) h e =
+pub return_cut : (l : List ℕ) → 0 < length l → get_or l (length l - 1) 0 ≡ 13 → take (length l - 1) l ≡ without_return l
+return_cut [] h e = absurd (omega arith)
+return_cut (x ∷ l) h e =
     let z : suc (length l) - 1 ≡ length l = omega arith in
     let f = rw z at e in
-    rw (z, return-length x l, f)
+    let n : length l ≡ length (without_return (x ∷ l)) = rw (return-length x l, f) in
+    rw (z, n) (return-taken (x ∷ l))
 
-pub return-off : (l : List ℕ) → 0 < length l → (get_or l (length l - 1) 0 ≡ 13 → ⊥) → length l ≡ length (without_return l)
-return-off [] h e = absurd (omega arith)
-return-off (x ∷ l) h e =
-    let z : suc (length l) - 1 ≡ length l = omega arith in
-    let f = rw z at e in
-    rw (return-length x l, ne_eqb (get_or (x ∷ l) (length l) 0) 13 f)
-
-pub return-within : (l : List ℕ) → length (without_return l) ≤ length l
+pub return_kept : (l : List ℕ) → (0 < length l → get_or l (length l - 1) 0 ≡ 13 → ⊥) → l ≡ without_return l
 unfolding without_return
-return-within [] = omega arith
-return-within (x ∷ l) = go (eqb (get_or (x ∷ l) (length l) 0) 13) (return-length x l)
-  where
-    go : (b : Bool) → length (without_return (x ∷ l)) ≡ cond b (length l) (suc (length l)) → length (without_return (x ∷ l)) ≤ suc (length l)
-    go true e = omega arith
-    go false e = omega arith
+return_kept [] e = refl
+return_kept (x ∷ l) e =
+    let z : suc (length l) - 1 ≡ length l = omega arith in
+    let f = rw z at (e (omega arith)) in
+    let n : length (without_return (x ∷ l)) ≡ length (x ∷ l) = rw (return-length x l, ne_eqb (get_or (x ∷ l) (length l) 0) 13 f) in
+    sym (take_all (length (without_return (x ∷ l))) (x ∷ l) (omega arith)) ∙ return-taken (x ∷ l)
 
 -- the bytes before a place, or all where it lies past the end
 pub reached-take : (m : List ℕ) (i n : ℕ) → Reached m (drop i m) n → take n m ≡ take i m
@@ -120,17 +88,6 @@ reached-take m i n h = go (leb i (length m)) refl
         let q = leb-false i (length m) e in
         let z : length m - n ≡ length m - i = sym (length-drop n m) ∙ ap length h.left ∙ length-drop i m in
         take_all n m (omega arith) ∙ sym (take_all i m (omega arith))
-
--- ---- The end of the input
-
-module _ (s : State) where
-  pub last_none : s.count ≡ 0 → (last_standing s ≡ s.standing) × (last_text s ≡ [])
-  unfolding last_standing last_text
-  last_none e = rw e (refl, refl)
-
-  pub last_some : (s.count ≡ 0 → ⊥) → (last_standing s ≡ after_line s.standing (begun s)) × (last_text s ≡ line_answer s.standing (begun s))
-  unfolding last_standing last_text
-  last_some e = rw (ne_eqb s.count 0 e) (refl, refl)
 
 -- ---- Byte by byte
 
@@ -171,13 +128,9 @@ module _ (m : List ℕ) (i : ℕ) (low : i < length m) (s : State) where
 
   -- any other byte: it is kept, and nothing is put
   module _ (other : get_or m i 0 ≡ 10 → ⊥) where
-    pub after_kept : s.count < most_kept → after_byte s (get_or m i 0) ≡ state s.standing (set s.held s.count (get_or m i 0)) (s.count + 1)
+    pub after-other : after_byte s (get_or m i 0) ≡ kept_byte s (get_or m i 0)
     unfolding after_byte
-    after_kept h = rw (ne_eqb (get_or m i 0) 10 other, lt-ltb s.count most_kept h)
-
-    pub after-full : most_kept ≤ s.count → after_byte s (get_or m i 0) ≡ s
-    unfolding after_byte
-    after-full h = rw (ne_eqb (get_or m i 0) 10 other, le-ltb s.count most_kept h)
+    after-other = rw (ne_eqb (get_or m i 0) 10 other)
 
     other-says : byte_answer s (get_or m i 0) ≡ []
     unfolding byte_answer
@@ -203,3 +156,7 @@ unfolding pieces_text flatten
 put_whole m s e t f {r} {q} {b} {x} {y} p last =
     let all : fed_text s m ++ finish_text t ≡ desk_text m = rw (f, e) (pieces (m ∷ []) ∙ ap desk_text (append-nil m)) in
     subst (λ (l : List ℕ). Put 0 l b y q) all (more p last)
+
+-- and the board that is kept after it
+pub kept-whole : (m : List ℕ) {s : State} {d : Standing} → s ≡ fed_state start_state m → d ≡ last_standing s → board_of d ≡ desk_board m
+kept-whole m e f = rw (f, e) (whole-board m)

@@ -1,6 +1,6 @@
 -- The lines of the desk: "a line with the aerodrome and the runways, parted by one space and ended as in freedom (a), then one runway row a line"; with two
 -- desks "runways end in `/1` or `/2`; its input rows start with one digit, the desk, and one space".
-use Rattle.std.specs.Prelude.{ℕ, List, [], ◌∷◌, map, leb, length, cond}
+use Rattle.std.specs.Prelude.{ℕ, List, [], ◌∷◌, Option, None, Some, map, leb, length, cond}
 use Rattle.text.specs.Piece.{Piece, byte, bytes, end, canonical, spell, verbatim, lay_all, ◌then◌}
 use Rattle.text.specs.Read.{Got, misfit, got, whole, read_seq, read_after, read_as, read_many}
 use Rattle.text.specs.Names.{read_count, is_space}
@@ -68,10 +68,10 @@ read_opening = read_seq read_aerodrome read_runways
 abbrev pub list_of : List (Runway × ℕ) → RunwayList
 list_of ps = record { count = length ps; runways = pad places blank_runway (map (λ p. p.0) ps); owners = pad places 0 (map (λ p. p.1) ps) }
 
--- none where they do not fit
-abbrev pub list_answer : Got (List (Runway × ℕ)) → RunwayList
-list_answer misfit = list_of []
-list_answer (got ps r) = list_of ps
+-- nothing where they do not fit
+abbrev pub list_found : Got (List (Runway × ℕ)) → Option RunwayList
+list_found misfit = None
+list_found (got ps r) = Some (list_of ps)
 
 -- opening with a list
 abbrev pub opening_with : List ℕ → RunwayList → Answer

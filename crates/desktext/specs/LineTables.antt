@@ -1,9 +1,9 @@
 -- The desk's lines by computation: a changed numeral or word fails here.
-use Rattle.std.specs.Prelude.{ℕ, ◌≡◌, refl, List, [], ◌∷◌, ◌++◌, map, replicate}
+use Rattle.std.specs.Prelude.{ℕ, ◌≡◌, refl, List, [], ◌∷◌, ◌++◌, map, replicate, None, Some}
 use Prim.Native.String.{String}
 use Rattle.text.specs.Choice.{◌and◌}
 use Rattle.text.specs.Piece.{bytes, canonical, spell}
-use Rattle.text.specs.Read.{misfit, skip, read_text, read_many}
+use Rattle.text.specs.Read.{misfit, skip, read_text, read_many, got}
 use Rattle.text.specs.Names.{read_name, read_count}
 use Rattle.text.specs.Numbers.{digits, read_digits}
 use Rattle.runway.specs.Time.{is_short_month, days_of, real_day, real_clock, real_time, later}
@@ -22,7 +22,7 @@ use Rattle.body.specs.Rows.{latest_of, latest_from, latest}
 use Rattle.board.specs.Board.{reported, latest_shown, valid_opening, valid_board}
 use Rattle.board.specs.Board.{blank_board, answer, opening}
 use Rattle.board.specs.Report.{place_of, is_news, refusal, newest, report}
-use Rattle.desktext.specs.Line.{read_spaced, read_owner, read_owned, owned_pieces, with_owners, read_opening, list_answer, opening_line, sender_pieces, read_sender}
+use Rattle.desktext.specs.Line.{read_spaced, read_owner, read_owned, owned_pieces, with_owners, read_opening, list_found, opening_line, sender_pieces, read_sender}
 use Rattle.desktext.specs.Line.{report_line, shown_text}
 use Rattle.desktext.specs.Desks.{lines_from, lines_answered}
 use Rattle.board.specs.Tables.{runway, board, holding, left}
@@ -82,8 +82,9 @@ pub record Lines : Type 0 where
   -- "the rows shown, in board order, one a line"
   line : shown_text left ≡ bytes "01120610 07L 6/6/6 DRY/DRY/DRY" ++ (10 ∷ [])
   none : shown_text blank_row ≡ []
-  -- a list that does not fit is none
-  no-list : list_answer misfit ≡ record { count = 0; runways = replicate 8 (runway 0 0); owners = replicate 8 0 }
+  -- a list that does not fit is none; one of no runway is empty
+  no-list : list_found misfit ≡ None
+  no-runway : list_found (got [] []) ≡ Some (record { count = 0; runways = replicate 8 (runway 0 0); owners = replicate 8 0 })
   -- runways with their owners, as far as both go
   pairs : with_owners (runway 7 1 ∷ runway 7 3 ∷ []) (1 ∷ 2 ∷ []) ≡ (runway 7 1, 1) ∷ (runway 7 3, 2) ∷ []
   -- the text of a runway with its owner, and of a line's start
@@ -121,6 +122,7 @@ lines = record {
       refl;
   none = refl;
   no-list = refl;
+  no-runway = refl;
   pairs = refl;
   joined = refl;
   start = refl;

@@ -6,29 +6,14 @@ use Rattle.board.specs.declared.Board.{Board}
 use Rattle.board.specs.declared.Answer.{Answer}
 use Rattle.board.specs.Board.{places, blank_board}
 use Rattle.desktext.specs.declared.Standing.{Standing}
+use Rattle.desktext.specs.declared.Standing.TheVariants.{Waiting, Keeping, Over}
 use Rattle.desktext.specs.declared.State.{State}
 use Rattle.desktext.specs.Line.{opening_line, report_line}
 use Rattle.desktext.specs.Desk.{printed, answer_line, shown_rows, refused_text}
 
--- the desk waits for its first line
-abbrev pub waiting : ℕ
-waiting = 0
-
--- it keeps a board
-abbrev pub keeping : ℕ
-keeping = 1
-
--- its opening was refused
-abbrev pub over : ℕ
-over = 2
-
--- where the desk stands between two lines, and its board
-abbrev pub standing : ℕ → Board → Standing
-standing phase board = record { phase = phase; board = board }
-
 -- "`OPEN`, or `REFUSED 17` and stops": the desk after its first line
 abbrev pub opened_standing : Answer → Standing
-opened_standing a = cond (eqb a.refusal 0) (standing keeping a.board) (standing over a.board)
+opened_standing a = cond (eqb a.refusal 0) (Keeping a.board) Over
 
 -- and what it prints
 abbrev pub opened_line : Answer → List ℕ
@@ -36,17 +21,27 @@ opened_line a = cond (eqb a.refusal 0) (printed (bytes "OPEN")) refused_text
 
 -- the desk after a line: the first opens the board, every other is a report; one whose opening was refused takes none
 unfoldable pub after_line : Standing → List ℕ → Standing
-after_line d l =
-    cond (eqb d.phase waiting) (opened_standing (opening_line l)) (cond (eqb d.phase keeping) (standing keeping (report_line d.board l).board) d)
+after_line Waiting l = opened_standing (opening_line l)
+after_line (Keeping b) l = Keeping (report_line b l).board
+after_line Over l = Over
 
 -- what it prints for the line
 unfoldable pub line_answer : Standing → List ℕ → List ℕ
-line_answer d l =
-    cond (eqb d.phase waiting) (opened_line (opening_line l)) (cond (eqb d.phase keeping) (answer_line (report_line d.board l).refusal) [])
+line_answer Waiting l = opened_line (opening_line l)
+line_answer (Keeping b) l = answer_line (report_line b l).refusal
+line_answer Over l = []
 
 -- what it prints at the end of its input: no line opens nothing, and a board's rows are shown
 unfoldable pub end_answer : Standing → List ℕ
-end_answer d = cond (eqb d.phase waiting) refused_text (cond (eqb d.phase keeping) (shown_rows places d.board) [])
+end_answer Waiting = refused_text
+end_answer (Keeping b) = shown_rows places b
+end_answer Over = []
+
+-- the board that it keeps, blank where none is opened
+abbrev pub board_of : Standing → Board
+board_of Waiting = blank_board
+board_of (Keeping b) = b
+board_of Over = blank_board
 
 -- how much of a line is kept: 4,096 bytes, the CR that may end it, and one that tells it to be over-long
 abbrev pub most_kept : ℕ
@@ -54,7 +49,7 @@ most_kept = suc (suc longest)
 
 -- before the first piece
 abbrev pub start_state : State
-start_state = record { standing = standing waiting blank_board; held = replicate most_kept 0; count = 0 }
+start_state = record { standing = Waiting; held = replicate most_kept 0; count = 0 }
 
 -- the bytes of the line that has not ended yet
 abbrev pub begun : State → List ℕ

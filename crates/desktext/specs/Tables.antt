@@ -1,5 +1,5 @@
 -- The desk by computation, from inputs and outputs written down by hand from document 01.
-use Rattle.std.specs.Prelude.{ℕ, ◌≡◌, refl, replicate}
+use Rattle.std.specs.Prelude.{ℕ, ◌≡◌, refl, map, replicate}
 use Prim.Native.String.{String}
 use mathlib.Core.List.{List, [], ◌∷◌, ◌++◌, flatten}
 use Rattle.text.specs.Choice.{◌and◌}
@@ -22,11 +22,12 @@ use Rattle.frontlines.specs.Heading.{read_aerodrome}
 use Rattle.board.specs.Board.{is_blank_runway, comes_before, rises, rising, is_aerodrome, valid_list, names, fits_place, fit_places, valid_places, is_desk, valid_owners}
 use Rattle.body.specs.Rows.{latest_of, latest_from, latest}
 use Rattle.board.specs.Board.{reported, latest_shown, valid_opening, valid_board, blank_board, opening}
-use Rattle.board.specs.Tables.{holding, left}
+use Rattle.board.specs.Tables.{board, holding, left}
 use Rattle.board.specs.Report.{place_of, is_news, refusal, newest, report}
 use Rattle.desktext.specs.Line.{read_spaced, read_owner, read_owned, read_opening, opening_line, read_sender, report_line, shown_text}
 use Rattle.desktext.specs.Desk.{answer_line, shown_rows, answers_text, desk_text, report_lines, desk_board}
-use Rattle.desktext.specs.Pieces.{waiting, keeping, over, most_kept, start_state, after_line, line_answer, end_answer, without_return, after_byte, byte_answer}
+use Rattle.desktext.specs.declared.Standing.TheVariants.{Waiting, Keeping, Over}
+use Rattle.desktext.specs.Pieces.{board_of, most_kept, start_state, after_line, line_answer, end_answer, without_return, after_byte, byte_answer}
 use Rattle.desktext.specs.Pieces.{fed_state, fed_text, last_standing, last_text, finish_text, pieces_text}
 use Rattle.desktext.specs.Theorems.{pieces as whole}
 
@@ -94,8 +95,13 @@ pub record Inputs : Type 0 where
   -- the board after an input; blank where none is opened
   kept : desk_board (text ("XQAA 07L/1 07R/2" ∷ []) ++ bytes "1 01120610 07L 6/6/6 DRY/DRY/DRY") ≡ holding (left ∷ [])
   kept-none : (desk_board [] ≡ blank_board) × (desk_board (text ("XQAA 07L" ∷ "1 01120610 07L 6/6/6 DRY/DRY/DRY" ∷ [])) ≡ blank_board)
-  -- the desk's three phases, and how much of a line is kept
-  phases : waiting ∷ keeping ∷ over ∷ most_kept ∷ [] ≡ 0 ∷ 1 ∷ 2 ∷ 4098 ∷ []
+  -- the desk waits for its first line, keeps the board that it opens, and is over where it opens none and for good
+  standings : start_state.standing ∷ after_line Waiting (bytes "XQAA 07L") ∷ after_line Over (bytes "XQAA 07L/1") ∷ [] ≡ Waiting ∷ Over ∷ Over ∷ []
+  opened : after_line Waiting (bytes "XQAA 07L/1 07R/2") ≡ Keeping board
+  -- no board is kept before the first line and where none is opened
+  boards : map board_of (Waiting ∷ Keeping (holding (left ∷ [])) ∷ Over ∷ []) ≡ blank_board ∷ holding (left ∷ []) ∷ blank_board ∷ []
+  -- how much of a line is kept
+  kept-size : most_kept ≡ 4098
   -- nothing is held before the first piece
   begins : start_state.held ≡ replicate 4098 0
 
@@ -130,7 +136,10 @@ inputs = record {
   desks = refl;
   kept = refl;
   kept-none = (refl, refl);
-  phases = refl;
+  standings = refl;
+  opened = refl;
+  boards = refl;
+  kept-size = refl;
   begins = refl;
 }
 

@@ -20,8 +20,9 @@ use Rattle.board.specs.Laws.Demand.{opened-fresh}
 use Rattle.board.specs.Runs.{reports}
 use Rattle.desktext.specs.Desk.{printed, answer_line, shown_rows, answers_text, refused_text, lines_text, desk_text, report_lines, desk_board}
 use Rattle.desktext.specs.declared.Standing.{Standing}
+use Rattle.desktext.specs.declared.Standing.TheVariants.{Waiting, Keeping, Over}
 use Rattle.desktext.specs.declared.State.{State}
-use Rattle.desktext.specs.Pieces.{waiting, keeping, line_answer, end_answer, start_state, begun, without_return, after_byte, byte_answer}
+use Rattle.desktext.specs.Pieces.{line_answer, end_answer, start_state, begun, without_return, after_byte, byte_answer}
 use Rattle.desktext.specs.Pieces.{fed_text, last_standing, last_text, finish_text, pieces_text}
 use Rattle.desktext.specs.Desks.{lines_from, lines_answered}
 use Rattle.desktext.specs.Laws.Desks.{lines-alone, board-alone, owners-stay}
@@ -125,13 +126,13 @@ desk-whole m h p = whole-put p (omega (arith, desk-size m))
 -- a line is answered by at most 11 bytes, "REFUSED 17" with its LF
 line-most : (d : Standing) (l : List ℕ) → length (line_answer d l) ≤ 11
 unfolding line_answer
-line-most d l = go (eqb d.phase waiting) (eqb d.phase keeping) (eqb (opening_line l).refusal 0)
+line-most Waiting l = go (eqb (opening_line l).refusal 0)
   where
-    go : (w k o : Bool) → length (cond w (cond o (printed (bytes "OPEN")) refused_text) (cond k (answer_line (report_line d.board l).refusal) [])) ≤ 11
-    go true k true = omega arith
-    go true k false = omega arith
-    go false true o = let h = answer-size (report_line d.board l).refusal in omega arith
-    go false false o = omega arith
+    go : (o : Bool) → length (cond o (printed (bytes "OPEN")) refused_text) ≤ 11
+    go true = omega arith
+    go false = omega arith
+line-most (Keeping b) l = let h = answer-size (report_line b l).refusal in omega arith
+line-most Over l = omega arith
 
 -- so a piece by at most 11 for each of its bytes
 pub fed-size : (m : List ℕ) (s : State) → length (fed_text s m) ≤ 11 * length m
@@ -145,12 +146,9 @@ fed-size (x ∷ m) s = rw length-append (omega (arith, go (eqb x 10), fed-size m
 
 end-most : (d : Standing) → length (end_answer d) ≤ 1184
 unfolding end_answer
-end-most d = go (eqb d.phase waiting) (eqb d.phase keeping)
-  where
-    go : (w k : Bool) → length (cond w refused_text (cond k (shown_rows 8 d.board) [])) ≤ 1184
-    go true k = omega arith
-    go false true = let h = rows-size 8 d.board in omega arith
-    go false false = omega arith
+end-most Waiting = omega arith
+end-most (Keeping b) = rows-size 8 b
+end-most Over = omega arith
 
 -- and the end by a last line's answer and eight rows
 pub finish-size : (s : State) → length (finish_text s) ≤ 1195

@@ -2,34 +2,37 @@
 
 #![tactic(auto)]
 
-ghost use Rattle.std.specs.Prelude.{◌≡◌, length, take, drop, get_or};
+ghost use Rattle.std.specs.Prelude.{◌≡◌, drop, MatchResult};
 ghost use Rattle.text.specs.Put.{Put};
-ghost use Rattle.board.specs.Report.{row_at};
-ghost use Rattle.desktext.specs.Line.{shown_text, read_spaced, read_owner, read_owned, read_runways, list_answer, opening_line, read_sender, report_read, report_line};
-ghost use Rattle.desktext.specs.Code.Held.{HeldOwned};
+ghost use Rattle.desktext.specs.Line.{shown_text, read_owned, read_runways, list_found, opening_line, read_sender, report_line};
+ghost use Rattle.board.specs.Board.{answer};
+ghost use Rattle.board.specs.Report.{report};
+ghost use Rattle.desktext.specs.Code.Held.{HeldSpace, HeldOwned};
 ghost use Rattle.desktext.specs.Desk.{answer_line, shown_rows, refused_text, desk_text, desk_board};
-ghost use Rattle.desktext.specs.Pieces.{keeping, standing, opened_standing, opened_line, after_line, line_answer, end_answer};
-ghost use Rattle.desktext.specs.Pieces.{start_state, without_return, fed_state, fed_text, last_standing, last_text, finish_text};
-ghost use Rattle.text.specs.Read.{misfit, whole};
-ghost use Rattle.runway.specs.Code.Held.{HeldRunway};
+ghost use Rattle.desktext.specs.Pieces.{opened_standing, opened_line, board_of, after_line, line_answer, end_answer};
+ghost use Rattle.desktext.specs.Pieces.{start_state, begun, kept_byte, without_return, fed_state, fed_text, last_standing, last_text, finish_text};
+ghost use Rattle.text.specs.Names.{is_space, read_count};
+ghost use Rattle.text.specs.Read.{whole};
+ghost use Rattle.text.specs.Refusals.{number};
 ghost use Rattle.text.specs.Code.Held.{Held};
-ghost use Rattle.rowtext.specs.Reading.{find_row};
-ghost use Rattle.row.specs.Row.{blank_row};
 
 use board::{
-    Answer, BLANK_RUNWAY, Board, MOST_RUNWAYS, PLACES, Runway, Sent, open, refused_opening, updated,
+    Answer, BLANK_RUNWAY, Board, MOST_RUNWAYS, Runway, Sent, blank_board, open, refused_opening,
+    updated,
 };
-use fill::{put, put_number, told_behind};
+use fill::{in_rest, put, put_number, told_behind};
 use frontlines::read_aerodrome;
-use row::{Row, blank_row, valid_row};
-use rowtext::{put_any_row, read_row};
-use runway::{NO_RUNWAY, RunwayFound, read_runway};
+use row::{Row, valid_row};
+use rowtext::{find_row, put_any_row};
+use runway::read_runway;
 use scan::{digits, word};
-use text::{Found, LONGEST, NONE, place, refusal};
+use text::refusal::Refusal;
+use text::{Found, LONGEST, place};
 
 // ---- The desk's lines
 
-// Runways and their owners in their arrays, zeros past the count; none where the text does not fit.
+// Runways and their owners in their arrays, zeros past the count.
+// stays: C interface
 #[repr(C)]
 #[derive(Clone, Copy)]
 pub struct RunwayList {
@@ -41,102 +44,62 @@ pub struct RunwayList {
 // A runway, its owner, and the place behind them.
 #[derive(Clone, Copy)]
 struct OwnedFound {
-    fits: bool,
     runway: Runway,
     owner: u8,
     next: usize,
 }
 
-const NOT_OWNED: OwnedFound = OwnedFound {
-    fits: false,
-    runway: BLANK_RUNWAY,
-    owner: 0,
-    next: 0,
-};
-
-// One space and a runway at `i`.
-fn spaced_runway(s: &[u8], i: usize) -> RunwayFound
-    ensures { HeldRunway s.now (read_spaced (drop i s.now)) result }
+// The place behind one space at `i`.
+fn past_space(s: &[u8], i: usize) -> Option<usize>
+    ensures { HeldSpace s.now (read_count is_space 1 (drop i s.now)) result }
 {
-    if i < s.len() {
-        if s[i] == b' ' {
-            return read_runway(s, i + 1);
-        }
+    if i < s.len() && s[i] == b' ' {
+        Some(i + 1)
+    } else {
+        None
     }
-    NO_RUNWAY
 }
 
-// A slash and one digit at `i`.
-fn owner_at(s: &[u8], i: usize) -> Found
-    ensures { Held s.now (read_owner (drop i s.now)) result }
-{
-    let slash = word(s, i, b"/", 0);
-    if !slash.fits {
-        return NONE;
-    }
-    digits(s, slash.next, 1)
-}
-
-// One space, a runway and its owner at `i`.
-fn owned_runway(s: &[u8], i: usize) -> OwnedFound
+// One space, a runway, and its owner behind a slash at `i`.
+fn owned_runway(s: &[u8], i: usize) -> Option<OwnedFound>
     ensures { HeldOwned s.now (read_owned (drop i s.now)) result }
 {
-    let w = spaced_runway(s, i);
-    if !w.fits {
-        return NOT_OWNED;
-    }
-    let o = owner_at(s, w.next);
-    if !o.fits {
-        return NOT_OWNED;
-    }
-    OwnedFound {
-        fits: true,
+    let at = past_space(s, i)?;
+    let w = read_runway(s, at)?;
+    let slash = word(s, w.next, b"/", 0)?;
+    let owner = digits(s, slash.next, 1)?;
+    Some(OwnedFound {
         runway: Runway {
             number: w.number,
             side: w.side,
         },
-        owner: o.value as u8,
-        next: o.next,
-    }
-}
-
-fn no_list() -> RunwayList
-    ensures { result ≡ list_answer misfit }
-{
-    RunwayList {
-        count: 0,
-        runways: [BLANK_RUNWAY; 8],
-        owners: [0; 8],
-    }
+        owner: owner.value as u8,
+        next: owner.next,
+    })
 }
 
 // The runways with their owners up to the end of the line, each read at its place.
-fn runway_list(s: &[u8]) -> RunwayList
-    ensures { result ≡ list_answer (whole (read_runways s.now)) }
+fn runway_list(s: &[u8]) -> Option<RunwayList>
+    ensures { result ≡ list_found (whole (read_runways s.now)) }
 {
-    let mut runways = [BLANK_RUNWAY; 8];
-    let mut owners = [0; 8];
-    let mut count: u8 = 0;
-    let mut at: usize = 0;
+    let mut list = RunwayList {
+        count: 0,
+        runways: [BLANK_RUNWAY; 8],
+        owners: [0; 8],
+    };
+    let mut at = 0;
+    // stays: no plainer: a step is as long as what it reads
     while at < s.len() {
-        if MOST_RUNWAYS <= count {
-            return no_list();
+        if list.count == MOST_RUNWAYS {
+            return None;
         }
-        let found = owned_runway(s, at);
-        if !found.fits {
-            return no_list();
-        }
-        let w = found.runway;
-        runways[count as usize] = w;
-        owners[count as usize] = found.owner;
-        count += 1;
+        let found = owned_runway(s, at)?;
+        list.runways[list.count as usize] = found.runway;
+        list.owners[list.count as usize] = found.owner;
+        list.count += 1;
         at = found.next;
     }
-    RunwayList {
-        count,
-        runways,
-        owners,
-    }
+    Some(list)
 }
 
 const AERODROME_SIZE: usize = 4;
@@ -148,97 +111,72 @@ fn open_line(line: &[u8]) -> Answer
     if line.len() < AERODROME_SIZE {
         return refused_opening();
     }
-    let a = read_aerodrome(&line[..AERODROME_SIZE]);
-    if !a.fits {
+    let Some(aerodrome) = read_aerodrome(&line[..AERODROME_SIZE]) else {
         return refused_opening();
-    }
-    let l = runway_list(&line[AERODROME_SIZE..]);
-    let aerodrome = a.aerodrome;
-    let runways = l.runways;
-    let owners = l.owners;
-    open(aerodrome, l.count, runways, owners)
+    };
+    let Some(list) = runway_list(&line[AERODROME_SIZE..]) else {
+        return refused_opening();
+    };
+    open(aerodrome, list.count, list.runways, list.owners)
 }
 
 // The desk that a row line starts with: one digit, and exactly one space.
-fn sender(line: &[u8]) -> Found
+#[tactic(auto, unfolding(crate::specs::Line::read_sender))]
+fn sender(line: &[u8]) -> Option<Found>
     ensures { Held line.now (read_sender line.now) result }
 {
-    let d = digits(line, 0, 1);
-    if !d.fits {
-        return NONE;
-    }
-    let at = d.next;
-    if at < line.len() {
-        if line[at] == b' ' {
-            return Found {
-                fits: true,
-                value: d.value,
-                next: at + 1,
-            };
-        }
-    }
-    NONE
+    let desk = digits(line, 0, 1)?;
+    let next = past_space(line, desk.next)?;
+    Some(Found {
+        value: desk.value,
+        next,
+    })
 }
 
-// The report of the row behind a line's start, or the refusal of the group at fault where there is no row.
-fn report_rest(b: Board, desk: u32, rest: &[u8]) -> Answer
-    ensures { result ≡ report_read b desk (find_row rest.now) }
+// The report that a line tells, or why it tells none: it does not start with a desk or is over 4,096 bytes, or what stands behind is no row.
+fn read_report(line: &[u8]) -> Result<Sent, Refusal>
+    ensures { MatchResult result
+        (λ x. (b : Board) → report_line b line.now ≡ report b x.desk x.row)
+        (λ e. (b : Board) → report_line b line.now ≡ answer (number e) b) }
 {
-    let read = read_row(rest);
-    if read.refusal == 0 {
-        let row = read.row;
-        return updated(b, Sent { desk, row });
+    if LONGEST < line.len() {
+        return Err(Refusal::NoRow);
     }
-    Answer {
-        refusal: read.refusal,
-        board: b,
+    let Some(start) = sender(line) else {
+        return Err(Refusal::NoRow);
+    };
+    match find_row(&line[start.next..]) {
+        Ok(row) => Ok(Sent {
+            desk: start.value,
+            row,
+        }),
+        Err(fault) => Err(fault.refusal),
     }
 }
 
-// The report that a line is: 5 where it does not start with a desk or is over 4,096 bytes, and the row's refusal where it is no row behind that.
+// The report that a line is, taken or refused; a line that is none leaves the board as it was.
 fn report_line(b: Board, line: &[u8]) -> Answer
     ensures { result ≡ report_line b line.now }
 {
-    if line.len() <= LONGEST {
-        let start = sender(line);
-        if start.fits {
-            let at = start.next;
-            return report_rest(b, start.value, &line[at..]);
-        }
+    match read_report(line) {
+        Ok(x) => updated(b, x),
+        Err(refusal) => Answer {
+            refusal: refusal.number(),
+            board: b,
+        },
     }
-    Answer {
-        refusal: refusal::NO_ROW,
-        board: b,
-    }
-}
-
-fn row_at(rows: [Row; 8], i: usize) -> Row
-    ensures { result ≡ get_or rows i blank_row }
-{
-    if i < PLACES {
-        return rows[i];
-    }
-    blank_row()
 }
 
 // The row's canonical line; nothing for a row that is not valid, so for zeros.
+#[tactic(auto, using(crate::proofs::Lines::no_line))]
 fn put_line(rest: &mut [u8], r: Row) -> usize
     ensures { Put 0 (shown_text r) rest.old rest.new result }
 {
-    if valid_row(r) {
-        let at = put_any_row(rest, r);
-        return put(rest, at, b"\n");
+    if !valid_row(r) {
+        return put(rest, 0, b"");
     }
-    put(rest, 0, b"")
-}
-
-// Puts the line of the row shown at a place, and answers how many bytes it has: none where the place shows nothing.
-fn put_shown(rest: &mut [u8], b: Board, i: usize) -> usize
-    ensures { Put 0 (shown_text (row_at b i)) rest.old rest.new result }
-{
-    let rows = b.rows;
-    let r = row_at(rows, i);
-    put_line(rest, r)
+    let at = put_any_row(rest, r);
+    put(rest, at, b"\n")
 }
 
 // ---- What the desk prints
@@ -251,13 +189,11 @@ fn put_answer(out: &mut [u8], at: usize, n: u8) -> usize
     put(out, at, b"\n")
 }
 
-// The line of the row shown at a place, in the rest of the buffer from `at` on.
-fn shown_at(out: &mut [u8], at: usize, b: Board, i: usize) -> usize
-    ensures { Put at (shown_text (row_at b i)) out.old out.new result }
+// The line of a row shown, in the rest of the buffer from `at` on.
+fn shown_at(out: &mut [u8], at: usize, r: Row) -> usize
+    ensures { Put at (shown_text r) out.old out.new result }
 {
-    let start = place(out, at);
-    let n = put_shown(&mut out[start..], b, i);
-    told_behind(out, at, n)
+    in_rest(out, at, |rest| put_line(rest, r))
 }
 
 // The rows shown, in board order.
@@ -265,10 +201,8 @@ fn put_rows(out: &mut [u8], at: usize, b: Board) -> usize
     ensures { Put at (shown_rows 8 b) out.old out.new result }
 {
     let mut behind = told_behind(out, at, 0);
-    let mut i: usize = 0;
-    while i < PLACES {
-        behind = shown_at(out, behind, b, i);
-        i += 1;
+    for &r in &b.rows {
+        behind = shown_at(out, behind, r);
     }
     behind
 }
@@ -281,18 +215,24 @@ fn put_refused(out: &mut [u8], at: usize) -> usize
 
 // ---- Line by line
 
-// The desk waits for its first line, keeps a board, or is over, since its opening was refused.
-pub const WAITING: u8 = 0;
-
-pub const KEEPING: u8 = 1;
-
-pub const OVER: u8 = 2;
-
-// Where the desk stands between two lines; its board is blank unless it keeps one.
+// Where the desk stands between two lines: it waits for its first one, keeps a board, or is over, since its opening was refused.
 #[derive(Clone, Copy)]
-pub struct Standing {
-    pub phase: u8,
-    pub board: Board,
+pub enum Standing {
+    Waiting,
+    Keeping(Board),
+    Over,
+}
+
+impl Standing {
+    // The board that the desk keeps; blank where none is opened.
+    fn board(self) -> Board
+        ensures { result ≡ board_of self }
+    {
+        match self {
+            Standing::Keeping(b) => b,
+            Standing::Waiting | Standing::Over => blank_board(),
+        }
+    }
 }
 
 // The desk after a line, and the place behind what was put.
@@ -308,66 +248,56 @@ fn take_opening(line: &[u8], out: &mut [u8], at: usize) -> Turn
     ensures put { Put at (opened_line (opening_line line.now)) out.old out.new result.behind }
 {
     let a = open_line(line);
-    let board = a.board;
-    if a.refusal == 0 {
-        let standing = Standing {
-            phase: KEEPING,
-            board,
+    if a.refusal != 0 {
+        return Turn {
+            standing: Standing::Over,
+            behind: put_refused(out, at),
         };
-        let behind = put(out, at, b"OPEN\n");
-        return Turn { standing, behind };
     }
-    let standing = Standing { phase: OVER, board };
-    let behind = put_refused(out, at);
-    Turn { standing, behind }
+    Turn {
+        standing: Standing::Keeping(a.board),
+        behind: put(out, at, b"OPEN\n"),
+    }
 }
 
 // A further line: a report.
 fn take_report_line(b: Board, line: &[u8], out: &mut [u8], at: usize) -> Turn
-    ensures standing_value { result.standing ≡ standing keeping (report_line b line.now).board }
+    ensures standing_value { result.standing ≡ Standing.Keeping (report_line b line.now).board }
     ensures put { Put at (answer_line (report_line b line.now).refusal) out.old out.new result.behind }
 {
     let a = report_line(b, line);
-    let board = a.board;
-    let standing = Standing {
-        phase: KEEPING,
-        board,
-    };
-    let behind = put_answer(out, at, a.refusal);
-    Turn { standing, behind }
+    Turn {
+        standing: Standing::Keeping(a.board),
+        behind: put_answer(out, at, a.refusal),
+    }
 }
 
 // One line, and what is printed for it.
+#[tactic(auto, using(text::specs::Laws::Put::nothing_put), unfolding(crate::specs::Pieces::after_line, crate::specs::Pieces::line_answer))]
 fn take_line(d: Standing, line: &[u8], out: &mut [u8], at: usize) -> Turn
     ensures standing_value { result.standing ≡ after_line d line.now }
     ensures put { Put at (line_answer d line.now) out.old out.new result.behind }
 {
-    if d.phase == WAITING {
-        return take_opening(line, out, at);
-    }
-    if d.phase == KEEPING {
-        let b = d.board;
-        return take_report_line(b, line, out, at);
-    }
-    let behind = told_behind(out, at, 0);
-    Turn {
-        standing: d,
-        behind,
+    match d {
+        Standing::Waiting => take_opening(line, out, at),
+        Standing::Keeping(b) => take_report_line(b, line, out, at),
+        Standing::Over => Turn {
+            standing: d,
+            behind: told_behind(out, at, 0),
+        },
     }
 }
 
 // What is printed at the end of the input.
+#[tactic(auto, using(text::specs::Laws::Put::nothing_put), unfolding(crate::specs::Pieces::end_answer))]
 fn put_end(out: &mut [u8], at: usize, d: Standing) -> usize
     ensures { Put at (end_answer d) out.old out.new result }
 {
-    if d.phase == WAITING {
-        return put_refused(out, at);
+    match d {
+        Standing::Waiting => put_refused(out, at),
+        Standing::Keeping(b) => put_rows(out, at, b),
+        Standing::Over => told_behind(out, at, 0),
     }
-    if d.phase == KEEPING {
-        let b = d.board;
-        return put_rows(out, at, b);
-    }
-    told_behind(out, at, 0)
 }
 
 // ---- Piece by piece
@@ -383,6 +313,7 @@ const MOST_KEPT: usize = 4098;
 #[derive(Clone, Copy)]
 pub struct State {
     pub standing: Standing,
+    // stays: no heap, so that the bytes stand in fixed memory
     pub held: [u8; 4098],
     pub count: usize,
 }
@@ -398,49 +329,43 @@ pub struct Fed {
 pub fn start() -> State
     ensures { result ≡ start_state }
 {
-    let a = refused_opening();
-    let board = a.board;
-    let standing = Standing {
-        phase: WAITING,
-        board,
-    };
     State {
-        standing,
+        standing: Standing::Waiting,
         held: [0; 4098],
         count: 0,
     }
 }
 
-// How many bytes a line has without the CR that is part of its end.
-fn size_without_return(line: &[u8]) -> usize
-    ensures { result ≡ length (without_return line.now) }
-{
-    let n = line.len();
-    if n == 0 {
-        return 0;
+impl State {
+    // The bytes of the line that has not ended.
+    fn begun(&self) -> &[u8]
+        ensures { result.now ≡ begun self.now }
+    {
+        let n = place(&self.held, self.count);
+        &self.held[..n]
     }
-    if line[n - 1] == CR {
-        return n - 1;
+
+    // One byte more of it, as far as it is kept.
+    fn keep(&mut self, b: u8)
+        ensures { self.new ≡ kept_byte self.old b }
+    {
+        if self.count < MOST_KEPT {
+            self.held[self.count] = b;
+            self.count += 1;
+        }
     }
-    n
 }
 
-// The line that an LF ended.
-fn take_ended(d: Standing, line: &[u8], out: &mut [u8], at: usize) -> Turn
-    ensures standing_value { result.standing ≡ after_line d (without_return line.now) }
-    ensures put { Put at (line_answer d (without_return line.now)) out.old out.new result.behind }
+// A line without the CR that is part of its end.
+#[tactic(auto, using(std::proofs::lemmas::Grind::common_steps, crate::proofs::Steps::return_cut, crate::proofs::Steps::return_kept))]
+fn without_return(line: &[u8]) -> &[u8]
+    ensures { result.now ≡ without_return line.now }
 {
-    let size = size_without_return(line);
-    take_line(d, &line[..size], out, at)
-}
-
-// The same, as it is held.
-fn take_held(d: Standing, held: &[u8], count: usize, out: &mut [u8], at: usize) -> Turn
-    ensures standing_value { result.standing ≡ after_line d (without_return (take count held.now)) }
-    ensures put { Put at (line_answer d (without_return (take count held.now))) out.old out.new result.behind }
-{
-    let n = place(held, count);
-    take_ended(d, &held[..n], out, at)
+    if line.last() == Some(&CR) {
+        &line[..line.len() - 1]
+    } else {
+        line
+    }
 }
 
 // One piece more of the input: puts the answers to the lines that end in it, from `at` on and as far as the buffer goes, and answers what is kept.
@@ -448,61 +373,45 @@ pub fn feed(s: State, piece: &[u8], out: &mut [u8], at: usize) -> Fed
     ensures state_value { result.state ≡ fed_state s piece.now }
     ensures put { Put at (fed_text s piece.now) out.old out.new result.behind }
 {
-    let mut standing = s.standing;
-    let mut held = s.held;
-    let mut count = s.count;
+    let mut state = s;
     let mut behind = at;
-    let mut i: usize = 0;
-    while i < piece.len() {
-        let b = piece[i];
-        i += 1;
+    for &b in piece {
         if b == LF {
-            let turn = take_held(standing, &held, count, out, behind);
-            standing = turn.standing;
+            let turn = take_line(state.standing, without_return(state.begun()), out, behind);
+            state.standing = turn.standing;
+            state.count = 0;
             behind = turn.behind;
-            count = 0;
-        } else if count < MOST_KEPT {
-            held[count] = b;
-            count += 1;
+        } else {
+            state.keep(b);
         }
     }
-    let behind = told_behind(out, behind, 0);
     Fed {
-        state: State {
-            standing,
-            held,
-            count,
-        },
-        behind,
+        state,
+        behind: told_behind(out, behind, 0),
     }
 }
 
 // A last line that lacks its end.
-fn take_last(s: State, out: &mut [u8], at: usize) -> Turn
-    ensures standing_value { result.standing ≡ last_standing s }
-    ensures put { Put at (last_text s) out.old out.new result.behind }
+#[tactic(auto, using(text::specs::Laws::Put::nothing_put), unfolding(crate::specs::Pieces::last_standing, crate::specs::Pieces::last_text))]
+fn take_last(s: &State, out: &mut [u8], at: usize) -> Turn
+    ensures standing_value { result.standing ≡ last_standing s.now }
+    ensures put { Put at (last_text s.now) out.old out.new result.behind }
 {
-    let d = s.standing;
-    let count = s.count;
-    if count == 0 {
-        let behind = told_behind(out, at, 0);
+    if s.count == 0 {
         return Turn {
-            standing: d,
-            behind,
+            standing: s.standing,
+            behind: told_behind(out, at, 0),
         };
     }
-    let held = s.held;
-    let n = place(&held, count);
-    take_line(d, &held[..n], out, at)
+    take_line(s.standing, s.begun(), out, at)
 }
 
 // The end of the input: puts the answer to a last line that lacks its end, and the rows shown; answers the place behind them.
 pub fn finish(s: State, out: &mut [u8], at: usize) -> usize
     ensures { Put at (finish_text s) out.old out.new result }
 {
-    let turn = take_last(s, out, at);
-    let d = turn.standing;
-    put_end(out, turn.behind, d)
+    let turn = take_last(&s, out, at);
+    put_end(out, turn.behind, turn.standing)
 }
 
 // What the desk prints for a whole input, put as far as the buffer goes; answers how many bytes it has, told up to 65,536 past the buffer's end.
@@ -510,8 +419,7 @@ pub fn desk(input: &[u8], out: &mut [u8]) -> usize
     ensures { Put 0 (desk_text input.now) out.old out.new result }
 {
     let fed = feed(start(), input, out, 0);
-    let state = fed.state;
-    finish(state, out, fed.behind)
+    finish(fed.state, out, fed.behind)
 }
 
 // The board that the desk keeps after a whole input; blank where none is opened.
@@ -521,8 +429,5 @@ pub fn desk_board(input: &[u8]) -> Board
     // what is printed meanwhile is not wanted
     let mut out = [0; 1];
     let fed = feed(start(), input, &mut out, 0);
-    let state = fed.state;
-    let turn = take_last(state, &mut out, 0);
-    let standing = turn.standing;
-    standing.board
+    take_last(&fed.state, &mut out, 0).standing.board()
 }

@@ -15,7 +15,7 @@ use text::refusal::Refusal;
 #[repr(C)]
 #[derive(Clone, Copy)]
 pub struct Change {
-    // 0 for two rows that are compared
+    // 0 for two rows that are compared; stays: C interface
     pub refusal: u8,
     // for each third whether its change counts
     pub counts: [bool; 3],
@@ -37,7 +37,7 @@ fn difference(old: u16, new: u16) -> u32
 fn is_significant(description: u8, difference: u32) -> bool
     ensures { result ≡ is_significant description difference }
 {
-    line_of(description).is_some_and(|Contaminant(_, _, figure)| u32::from(figure) <= difference)
+    line_of(description as u32).is_some_and(|Contaminant(_, _, figure)| u32::from(figure) <= difference)
 }
 
 fn depth_counts(description: u8, old: u16, new: u16) -> bool

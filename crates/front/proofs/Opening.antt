@@ -1,148 +1,103 @@
--- The front, line by line: what each answer says, and one step of the loop.
-use Prim.Native.Nat.{ℕ, suc, ◌+◌, ◌-◌, ◌<◌, ◌≤◌}
-use mathlib.Core.Path.{◌≡◌, refl, sym, ◌∙◌, ap}
-use mathlib.Core.List.{List, [], ◌∷◌, ◌++◌}
-use mathlib.Core.Bool.{cond, Bool, true, false}
-use native.Mathlib.Numerals.{add-one}
-use native.Mathlib.Omega.{arith}
-use lib.Dec.{eqb, ltb}
-use borrow.Author.Tests.{ne_eqb}
-use lib.ListN.{length, take, drop, drop_of_length-le, take-append-drop}
-use lib.Seq.{drop-drop}
-use Rattle.text.specs.Read.{Got, misfit, got, and_then, whole}
+-- The front, line by line: what is left from a line on is what all lines say.
+use Rattle.std.proofs.Common.{ℕ, zero, suc, [], ◌∷◌, ◌++◌, get_or, ◌+◌, ◌-◌, ◌<◌, ◌≤◌, ◌≡◌, List, length, take, drop, refl, sym, ◌∙◌, ap, add-one, drop_of_length-le, take-append-drop, arith}
+use Rattle.std.proofs.Math.Seq.{drop-drop}
+use Rattle.text.specs.Read.{misfit, got}
+use Rattle.text.specs.Refusals.{number}
 use Rattle.text.specs.Lines.{Cut, cut, onward, cuts, lines_size}
-use Rattle.text.specs.Code.Held.{Held, first_line}
-use Rattle.text.specs.declared.Line.{Line}
-use Rattle.text.specs.declared.Found.{Found}
-use Rattle.text.specs.Laws.Lines.{whole-got, line-cuts}
-use Rattle.frontlines.specs.declared.Addresses.{Addresses}
-use Rattle.frontlines.specs.declared.Filing.{Filing}
-use Rattle.frontlines.specs.declared.AddressesRead.{AddressesRead}
-use Rattle.frontlines.specs.declared.FilingRead.{FilingRead}
-use Rattle.frontlines.specs.declared.HeadingRead.{HeadingRead}
-use Rattle.frontlines.specs.declared.AerodromeRead.{AerodromeRead}
-use Rattle.frontlines.specs.Addresses.{read_addresses}
-use Rattle.frontlines.specs.Filing.{read_filing}
-use Rattle.frontlines.specs.Heading.{Heading, read_heading, read_serial_line, read_aerodrome}
-use Rattle.frontlines.specs.Code.Answers.{addresses_answer, filing_answer, heading_answer, aerodrome_answer}
 use Rattle.text.specs.Out.{refuse}
+use Rattle.text.specs.Code.Held.{first_line}
+use Rattle.text.specs.declared.refusal.Refusal.{Refusal}
+use Rattle.text.specs.declared.Line.{Line as TextLine}
+use Rattle.text.specs.Laws.Lines.{line-inside, line-place, line-cuts}
 use Rattle.front.specs.declared.Front.{Front}
-use Rattle.front.specs.Code.Front.{front_count, Opening, unopened, kept, with_addresses, with_filing, with_heading, with_serial, with_aerodrome, fill_line, line_refusal, next_line, fill_lines, front_answer, FrontHeld}
+use Rattle.front.specs.declared.Line.{Line}
+use Rattle.front.specs.declared.Line.TheVariants.{First, Second, Third, Fourth, Fifth}
+use Rattle.front.specs.Code.Front.{number_of, front_count, blank_front, Opening, unopened, kept, fill_line, line_refusal, next_line, fill_lines, FrontTaken, FrontRefused}
 
--- what a line's answer stands for
-addresses-says : (g : Got Addresses) {r : AddressesRead} → r ≡ addresses_answer (whole g) → whole g ≡ cond r.fits (got r.addresses []) misfit
-addresses-says misfit e = rw e
-addresses-says (got a []) e = rw e
-addresses-says (got a (x ∷ k)) e = rw e
+-- the lines in their order, each at its place
+abbrev pub lines : List Line
+lines = First ∷ Second ∷ Third ∷ Fourth ∷ Fifth ∷ []
 
-filing-says : (g : Got Filing) {r : FilingRead} → r ≡ filing_answer (whole g) → whole g ≡ cond r.fits (got r.filing []) misfit
-filing-says misfit e = rw e
-filing-says (got a []) e = rw e
-filing-says (got a (x ∷ k)) e = rw e
+number-is : (k : ℕ) (l : Line) → k < front_count → number_of (get_or lines k l) ≡ k
+number-is zero l h = refl
+number-is (suc zero) l h = refl
+number-is (suc (suc zero)) l h = refl
+number-is (suc (suc (suc zero))) l h = refl
+number-is (suc (suc (suc (suc zero)))) l h = refl
+number-is (suc (suc (suc (suc (suc k))))) l h = absurd (omega arith)
 
-heading-says : (g : Got Heading) {r : HeadingRead} → r ≡ heading_answer (whole g) → whole g ≡ cond r.fits (got (record { title = r.title; time = r.time }) []) misfit
-heading-says misfit e = rw e
-heading-says (got a []) e = rw e
-heading-says (got a (x ∷ k)) e = rw e
+pub line-number : {k : ℕ} {l : Line} → k < front_count → l ≡ get_or lines k l → number_of l ≡ k
+line-number {k} {l} h e = ap number_of e ∙ number-is k l h
 
-aerodrome-says : (g : Got (List ℕ)) {r : AerodromeRead} → r ≡ aerodrome_answer (whole g) → whole g ≡ cond r.fits (got r.aerodrome []) misfit
-aerodrome-says misfit e = rw e
-aerodrome-says (got a []) e = rw e
-aerodrome-says (got a (x ∷ k)) e = rw e
+-- k lines are read and fill the front f, and the next one starts at `at`
+pub record Upto (m : List ℕ) (k at : ℕ) (f : Front) : Type 0 where
+  pub within : at ≤ length m
+  pub count : k ≤ front_count
+  pub behind : at ≡ lines_size k m
+  pub opening : Opening
+  pub fronts : opening.front ≡ f
+  pub left : fill_lines (front_count - k) k opening (cuts (drop at m)) ≡ fill_lines front_count 0 unopened (cuts m)
 
-serial-says : (g : Got ℕ) {m : List ℕ} {r : Found} → Held m (whole g) r → whole g ≡ cond r.fits (got r.value []) misfit
-serial-says g {m} {r} h = go r.fits h.says
-  where
-    go : (b : Bool) → whole g ≡ cond b (got r.value (drop r.next m)) misfit → whole g ≡ cond b (got r.value []) misfit
-    go true e = e ∙ ap (got r.value) (whole-got g e).1
-    go false e = e
+pub none-read : (m : List ℕ) → Upto m 0 0 blank_front
+unfolding lines_size
+none-read m = record { within = omega arith; count = omega arith; behind = refl; opening = unopened; fronts = refl; left = refl }
 
-into : {A : Type 0} (to : A → Front) {g : Got A} (b : Bool) (v : A) → g ≡ cond b (got v []) misfit → and_then g (λ a k. got (to a) k) ≡ cond b (got (to v) []) misfit
-into to true v e = rw e
-into to false v e = rw e
-
--- and the front that it is read into, by the arm that the line's number takes
-module _ (f : Front) (l : List ℕ) {k : ℕ} {b : Bool} {g : Front} where
-  pub fill-addresses : {r : AddressesRead} → r ≡ addresses_answer (whole (read_addresses l)) → k ≡ 0 → g ≡ with_addresses f r.addresses → b ≡ r.fits
-      → fill_line k f l ≡ cond b (got g []) misfit
-  unfolding fill_line
-  fill-addresses {r} h n p q = rw (n, p, q) (into (with_addresses f) r.fits r.addresses (addresses-says (read_addresses l) h))
-
-  pub fill-filing : {r : FilingRead} → r ≡ filing_answer (whole (read_filing l)) → k ≡ 1 → g ≡ with_filing f r.filing → b ≡ r.fits → fill_line k f l ≡ cond b (got g []) misfit
-  unfolding fill_line
-  fill-filing {r} h n p q = rw (n, p, q) (into (with_filing f) r.fits r.filing (filing-says (read_filing l) h))
-
-  pub fill-heading : {r : HeadingRead} → r ≡ heading_answer (whole (read_heading l)) → k ≡ 2 → g ≡ with_heading f (record { title = r.title; time = r.time }) → b ≡ r.fits
-      → fill_line k f l ≡ cond b (got g []) misfit
-  unfolding fill_line
-  fill-heading {r} h n p q = rw (n, p, q) (into (with_heading f) r.fits (record { title = r.title; time = r.time }) (heading-says (read_heading l) h))
-
-  pub fill-serial : {r : Found} → Held l (whole (read_serial_line l)) r → k ≡ 3 → g ≡ with_serial f r.value → b ≡ r.fits → fill_line k f l ≡ cond b (got g []) misfit
-  unfolding fill_line
-  fill-serial {r} h n p q = rw (n, p, q) (into (with_serial f) r.fits r.value (serial-says (read_serial_line l) h))
-
-  -- the last of them
-  pub fill-aerodrome : {r : AerodromeRead} → r ≡ aerodrome_answer (whole (read_aerodrome l)) → 3 < k → g ≡ with_aerodrome f r.aerodrome → b ≡ r.fits
-      → fill_line k f l ≡ cond b (got g []) misfit
-  unfolding fill_line
-  fill-aerodrome {r} h n p q =
-      rw (ne_eqb k 0 (omega arith), ne_eqb k 1 (omega arith), ne_eqb k 2 (omega arith), ne_eqb k 3 (omega arith), p, q)
-      (into (with_aerodrome f) r.fits r.aerodrome (aerodrome-says (read_aerodrome l) h))
-
--- no line is refused by 0
-refuses : (k : ℕ) → eqb (line_refusal k) 0 ≡ false
-unfolding line_refusal
-refuses k = go (ltb k 2) (eqb k 2)
-  where
-    go : (a b : Bool) → eqb (cond a 2 (cond b 3 4)) 0 ≡ false
-    go true b = refl
-    go false true = refl
-    go false false = refl
-
--- the loop: what is left from here is what all lines say
-one_left : (k : ℕ) → k < front_count → front_count - k ≡ suc (front_count - (k + 1))
-one_left k h = omega arith
-
--- no line is left
-pub line-missing : (m : List ℕ) (at k : ℕ) (o : Opening) → k < front_count → length m ≤ at → fill_lines (front_count - k) k o (cuts (drop at m)) ≡ refuse (line_refusal k) (drop at m)
-unfolding fill_lines next_line cuts
-line-missing m at k o h e = rw (one_left k h, drop_of_length-le m e)
-
--- the line k fits, or does not
-module _ (m : List ℕ) (at : ℕ) (w : at < length m) {n : Line} (e : n ≡ first_line (take (length m - at) (drop at m))) (k : ℕ) (o : Opening) (l : k < front_count) (b : Bool) (g : Front) (h : fill_line k o.front (take (at + n.size - at) (drop at m)) ≡ cond b (got g []) misfit) where
-  here : Cut
-  here = cut (take (at + n.size - at) (drop at m)) (drop (at + n.size) m)
-
-  there : cuts (drop at m) ≡ here ∷ cuts (drop (at + n.next) m)
-  unfolding here
-  there = let s : at + n.size - at ≡ n.size = omega arith in rw s (line-cuts m at w e)
-
-  starts : onward here ≡ drop at m
-  unfolding here
-  starts = let s : at + n.size - at ≡ n.size = omega arith in rw s (ap (λ k. take n.size (drop at m) ++ k) (sym (drop-drop n.size at m)) ∙ take-append-drop n.size (drop at m))
-
-  step-on : b ≡ true → fill_lines (front_count - k) k o (cuts (drop at m)) ≡ fill_lines (front_count - (k + 1)) (k + 1) (kept k here o g) (cuts (drop (at + n.next) m))
-  unfolding fill_lines next_line here
-  step-on t = rw (one_left k l, there, h, t, add-one k)
-
-  -- so what is left below it is what all lines say
-  pub stepped : b ≡ true → fill_lines (front_count - k) k o (cuts (drop at m)) ≡ fill_lines front_count 0 unopened (cuts m)
-      → (x : Opening) × (x.front ≡ g) × (fill_lines (front_count - (k + 1)) (k + 1) x (cuts (drop (at + n.next) m)) ≡ fill_lines front_count 0 unopened (cuts m))
-  stepped t left = (kept k here o g, refl, sym (step-on t) ∙ left)
-
-  pub step-off : b ≡ false → fill_lines (front_count - k) k o (cuts (drop at m)) ≡ refuse (line_refusal k) (drop at m)
-  unfolding fill_lines next_line here
-  step-off t = rw (one_left k l, there, h, t) (ap (refuse (line_refusal k)) starts)
-
--- all lines are read, or the line k does not fit
-module _ (m : List ℕ) (at k : ℕ) (o : Opening) (w : at ≤ length m) (l : at ≡ lines_size k m) (left : fill_lines (front_count - k) k o (cuts (drop at m)) ≡ fill_lines front_count 0 unopened (cuts m)) where
-  pub front_read : k ≤ front_count → front_count ≤ k → (start : ℕ) → FrontHeld m (front_answer 0 start o.front at)
-  unfolding fill_lines front_answer
-  front_read h e start =
+module _ {m : List ℕ} {k at : ℕ} {f : Front} (u : Upto m k at f) where
+  -- all lines are read
+  pub all-read : front_count ≤ k → FrontTaken m (record { front = f; next = at })
+  unfolding fill_lines
+  all-read h =
+      let c = u.count in
       let n : front_count - k ≡ 0 = omega arith in
       let z : k ≡ front_count = omega arith in
-      record { within = w; inside = omega arith; opening = o; fronts = refl; says = sym left ∙ rw n; behind = l ∙ ap (λ (i : ℕ). lines_size i m) z; blank = refl }
+      record { within = u.within; opening = u.opening; fronts = u.fronts; says = sym u.left ∙ rw n; behind = u.behind ∙ ap (λ (i : ℕ). lines_size i m) z }
 
-  pub front-refused : (n : ℕ) → n ≡ line_refusal k → fill_lines (front_count - k) k o (cuts (drop at m)) ≡ refuse (line_refusal k) (drop at m) → (g : Front) (i : ℕ) → FrontHeld m (front_answer n at g i)
-  unfolding front_answer
-  front-refused n e q g i = rw (e, refuses k) (record { within = omega arith; inside = w; opening = unopened; fronts = refl; says = sym left ∙ q ∙ rw (refuses k); behind = rw (refuses k); blank = rw (refuses k) })
+  module _ (h : k < front_count) where
+    one_left : front_count - k ≡ suc (front_count - (k + 1))
+    one_left = omega arith
+
+    -- no line is left
+    pub line-missing : {r : Refusal} → number r ≡ line_refusal k → length m ≤ at → FrontRefused m (record { refusal = r; place = at })
+    unfolding fill_lines next_line cuts
+    line-missing e l = record { within = u.within; says = sym u.left ∙ rw (one_left, drop_of_length-le m l, e) }
+
+    -- the line k stands there, n of it
+    module _ (w : at < length m) {n : TextLine} (e : n ≡ first_line (take (length m - at) (drop at m))) where
+      abbrev line : List ℕ
+      line = take (at + n.size - at) (drop at m)
+
+      here : Cut
+      here = cut line (drop (at + n.size) m)
+
+      there : cuts (drop at m) ≡ here ∷ cuts (drop (at + n.next) m)
+      unfolding here
+      there = let s : at + n.size - at ≡ n.size = omega arith in rw s (line-cuts m at w e)
+
+      starts : onward here ≡ drop at m
+      unfolding here
+      starts =
+          let s : at + n.size - at ≡ n.size = omega arith in
+          rw s (ap (λ k. take n.size (drop at m) ++ k) (sym (drop-drop n.size at m)) ∙ take-append-drop n.size (drop at m))
+
+      -- it does not fit
+      pub line-misfit : {r : Refusal} → number r ≡ line_refusal k → fill_line k f line ≡ misfit → FrontRefused m (record { refusal = r; place = at })
+      unfolding fill_lines next_line here
+      line-misfit q x = record { within = u.within; says = sym u.left ∙ rw (one_left, there, u.fronts, x, q) (ap (refuse (line_refusal k)) starts) }
+
+      -- or it fills the front one line further
+      module _ {g : Front} (x : fill_line k f line ≡ got g []) where
+        step-on : fill_lines (front_count - k) k u.opening (cuts (drop at m))
+            ≡ fill_lines (front_count - (k + 1)) (k + 1) (kept k here u.opening g) (cuts (drop (at + n.next) m))
+        unfolding fill_lines next_line here
+        step-on = rw (one_left, there, u.fronts, x, add-one k)
+
+        pub line-filled : Upto m (k + 1) (at + n.next) g
+        line-filled =
+            record {
+              within = (line-inside m at w e).1;
+              count = omega arith;
+              behind = rw add-one (line-place m at w e k u.behind);
+              opening = kept k here u.opening g;
+              fronts = refl;
+              left = sym step-on ∙ u.left;
+            }

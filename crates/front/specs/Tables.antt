@@ -1,5 +1,5 @@
 -- Lines 1 to 5 as they are filled and put, evaluated.
-use Rattle.std.specs.Prelude.{ℕ, ◌≡◌, refl, List, [], ◌∷◌, ◌++◌, map, replicate}
+use Rattle.std.specs.Prelude.{ℕ, ◌≡◌, refl, List, [], ◌∷◌, ◌++◌, map, Ok, Err, replicate}
 use Prim.Native.String.{String}
 use Rattle.std.proofs.Common.{lit≤}
 use Rattle.text.specs.Choice.{◌and◌}
@@ -8,7 +8,7 @@ use Rattle.text.specs.Read.{Got, got, skip, read_text, read_many}
 use Rattle.text.specs.Names.{read_count, read_name}
 use Rattle.text.specs.Numbers.{digits, read_digits}
 use Rattle.text.specs.Arrays.{slots, past_slots, flat}
-use Rattle.text.specs.Lines.{Cut, cut, cuts}
+use Rattle.text.specs.Lines.{Cut, cut, cuts, line_step, end_size, lines_size}
 use Rattle.text.specs.Out.{Out, refuse, taken}
 use Rattle.runway.specs.Time.{is_short_month, days_of, real_day, real_clock, real_time}
 use Rattle.frontlines.specs.declared.Title.{Title}
@@ -16,10 +16,12 @@ use Rattle.frontlines.specs.Letters.{is_letters}
 use Rattle.frontlines.specs.Addresses.{make_addresses, read_addresses, addresses_pieces}
 use Rattle.frontlines.specs.Filing.{real_filing, read_filing, filing_pieces}
 use Rattle.frontlines.specs.Heading.{read_heading, read_serial_line, read_aerodrome, heading_pieces, serial_pieces, aerodrome_pieces}
+use Rattle.text.specs.declared.refusal.Refusal.TheVariants.{Line1Or2}
 use Rattle.front.specs.declared.Front.{Front}
+use Rattle.front.specs.declared.Line.TheVariants.{First, Second, Third, Fourth, Fifth}
 use Rattle.front.specs.Places.{time_on, serial_on}
 use Rattle.front.specs.Code.Front.{blank_front, with_addresses, with_filing, with_heading, with_serial, with_aerodrome, front_count, fill_line, line_refusal}
-use Rattle.front.specs.Code.Front.{Opening, unopened, next_line, fill_lines, no_front, front_answer, FrontHeld, front_text}
+use Rattle.front.specs.Code.Front.{Opening, unopened, number_of, next_line, fill_lines, FrontHeld, front_text}
 
 abbrev title : Title
 title = record { region = bytes "XQ"; serial = 7; aerodrome = bytes "XQAA" }
@@ -86,15 +88,15 @@ pub record Fronts : Type 0 where
   -- the places of 12 and 10 in lines with other spacing
   times : time_on (cut (bytes "SWXQ0007   XQAA  01120640") (10 ∷ [])) ≡ bytes "01120640" ++ (10 ∷ [])
   serials : serial_on (cut (bytes "(SNOWTAM   0007") (13 ∷ 10 ∷ [])) ≡ bytes "0007" ++ (13 ∷ 10 ∷ [])
-  answered : front_answer 0 7 full 79 ≡ record { refusal = 0; place = 0; front = full; next = 79 }
-  refused : map (λ n. front_answer n 7 full 79) (1 ∷ 4 ∷ []) ≡ record { refusal = 1; place = 7; front = blank_front; next = 0 } ∷ no_front 4 7 ∷ []
-  held : FrontHeld [] (no_front 2 0)
+  places : map number_of (First ∷ Second ∷ Third ∷ Fourth ∷ Fifth ∷ []) ≡ 0 ∷ 1 ∷ 2 ∷ 3 ∷ 4 ∷ []
+  answered : FrontHeld message (Ok (record { front = full; next = 69 }))
+  refused : FrontHeld [] (Err (record { refusal = Line1Or2; place = 0 }))
   written : front_text full.addresses full.filing title 1120640 ≡ message
 
 pub fronts : Fronts
-unfolding ◌and◌ spell skip read_text read_many read_count read_name read_digits digits slots past_slots flat cuts is_short_month days_of real_day real_clock real_time
+unfolding ◌and◌ line_step end_size lines_size spell skip read_text read_many read_count read_name read_digits digits slots past_slots flat cuts is_short_month days_of real_day real_clock real_time
     is_letters read_addresses addresses_pieces real_filing read_filing filing_pieces read_heading read_serial_line read_aerodrome heading_pieces serial_pieces
-    aerodrome_pieces fill_line line_refusal next_line fill_lines front_answer
+    aerodrome_pieces fill_line line_refusal next_line fill_lines
 fronts = record {
   blank = refl;
   first = refl;
@@ -108,8 +110,8 @@ fronts = record {
   misfits = refl;
   times = refl;
   serials = refl;
-  answered = refl;
-  refused = refl;
-  held = record { within = lit≤ tt; inside = lit≤ tt; opening = unopened; fronts = refl; says = refl; behind = refl; blank = refl };
+  places = refl;
+  answered = record { within = lit≤ tt; opening = record { front = full; third = line_three []; fourth = line_four []; fifth = line_five [] }; fronts = refl; says = refl; behind = refl };
+  refused = record { within = lit≤ tt; says = refl };
   written = refl;
 }

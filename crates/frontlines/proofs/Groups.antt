@@ -88,9 +88,9 @@ slot-fits (suc n) (x ∷ m) = rw (eqb-suc-suc (length (take n m)) n) (go (is_let
 letters-test : (n : ℕ) (m : List ℕ) → length m ≡ n → is_got (read_letters n m) ≡ is_letters n m
 letters-test n m e = slot-fits n m ∙ ap (is_letters n) (take_all n m (omega arith))
 
-pub letters-are : (n : ℕ) (m : List ℕ) → length m ≡ n → is_got (read_count (in_class Letters) n m) ≡ is_letters n m
+pub letters_are : (n : ℕ) (m : List ℕ) → length m ≡ n → is_got (read_count (in_class Letters) n m) ≡ is_letters n m
 unfolding in_class
-letters-are = letters-test
+letters_are = letters-test
 
 other_length : (n : ℕ) (m : List ℕ) → eqb (length m) n ≡ false → is_letters n m ≡ false
 unfolding is_letters ◌and◌

@@ -15,7 +15,7 @@ use Rattle.text.specs.Numbers.{digits}
 use Rattle.text.specs.Arrays.{slots}
 use Rattle.text.specs.Put.{Put, told, farthest}
 use Rattle.text.specs.Laws.Put.{canonical-append, told-near, told-far}
-use Rattle.frontlines.specs.Addresses.{priority_name, address_pieces}
+use Rattle.frontlines.specs.Addresses.{address_pieces}
 use Rattle.frontlines.specs.Filing.{filing_pieces}
 use Rattle.frontlines.specs.declared.Heading.{Heading}
 use Rattle.frontlines.specs.Heading.{designator_pieces, heading_pieces, serial_pieces}
@@ -46,20 +46,13 @@ stays {a} {r} {t} {b} {x} p =
     record { place = p.place ∙ told-again b (a + length t) ∙ ap (told b) (sym p.place) ∙ sym (told-alike b x r (put-long p)) ∙ rw z; holds = refl }
 
 -- letters are written as they are
-pub verbatim-text : (l : List ℕ) → canonical (verbatim l) ≡ l
-verbatim-text [] = refl
-verbatim-text (x ∷ l) = ap (λ k. x ∷ k) (verbatim-text l)
+pub verbatim_text : (l : List ℕ) → canonical (verbatim l) ≡ l
+verbatim_text [] = refl
+verbatim_text (x ∷ l) = ap (λ k. x ∷ k) (verbatim_text l)
 
 -- line 1
-pub no-priority-text : (p : ℕ) → (p ≡ 1 → ⊥) → (p ≡ 2 → ⊥) → canonical (spell (priority_name p)) ≡ []
-unfolding spell
-no-priority-text zero a b = refl
-no-priority-text (suc zero) a b = absurd (a refl)
-no-priority-text (suc (suc zero)) a b = absurd (b refl)
-no-priority-text (suc (suc (suc p))) a b = refl
-
 pub address-text : (l : List ℕ) → canonical (address_pieces l) ≡ (32 ∷ []) ++ l
-address-text l = ap (λ k. 32 ∷ k) (verbatim-text l)
+address-text l = ap (λ k. 32 ∷ k) (verbatim_text l)
 
 -- eight bytes of the array, as far as it goes
 pub slot-within : (f : List ℕ) (n i j : ℕ) → i ≡ min n (length f) → j ≡ min (i + 8) (length f) → take 8 (drop n f) ≡ take (j - i) (drop i f)
@@ -107,12 +100,12 @@ address_more f i =
 -- line 2
 pub filing-text : (f : Filing) → canonical (filing_pieces f) ≡ canonical (digits 6 f.time) ++ ((32 ∷ []) ++ f.originator)
 unfolding filing_pieces
-filing-text f = canonical-append (digits 6 f.time) (gap ∷ verbatim f.originator) ∙ ap (λ k. canonical (digits 6 f.time) ++ (32 ∷ k)) (verbatim-text f.originator)
+filing-text f = canonical-append (digits 6 f.time) (gap ∷ verbatim f.originator) ∙ ap (λ k. canonical (digits 6 f.time) ++ (32 ∷ k)) (verbatim_text f.originator)
 
 -- line 3
 pub designator-text : (r : List ℕ) (n : ℕ) → canonical (designator_pieces r n) ≡ bytes "SW" ++ (r ++ canonical (digits 4 n))
 unfolding spell
-designator-text r n = ap (λ k. bytes "SW" ++ k) (canonical-append (verbatim r) (digits 4 n) ∙ ap (λ k. k ++ canonical (digits 4 n)) (verbatim-text r))
+designator-text r n = ap (λ k. bytes "SW" ++ k) (canonical-append (verbatim r) (digits 4 n) ∙ ap (λ k. k ++ canonical (digits 4 n)) (verbatim_text r))
 
 pub heading-text : (h : Heading) → canonical (heading_pieces h)
     ≡ canonical (designator_pieces h.title.region h.title.serial) ++ ((32 ∷ []) ++ (h.title.aerodrome ++ ((32 ∷ []) ++ canonical (digits 8 h.time))))
@@ -121,7 +114,7 @@ heading-text h =
     let a = h.title.aerodrome in
     let d = designator_pieces h.title.region h.title.serial in
     let t = gap ∷ digits 8 h.time in
-    canonical-append d (gap ∷ (verbatim a ++ t)) ∙ ap (λ k. canonical d ++ (32 ∷ k)) (canonical-append (verbatim a) t ∙ ap (λ k. k ++ canonical t) (verbatim-text a))
+    canonical-append d (gap ∷ (verbatim a ++ t)) ∙ ap (λ k. canonical d ++ (32 ∷ k)) (canonical-append (verbatim a) t ∙ ap (λ k. k ++ canonical t) (verbatim_text a))
 
 -- line 4
 pub serial-text : (n : ℕ) → canonical (serial_pieces n) ≡ bytes "(SNOWTAM " ++ canonical (digits 4 n)

@@ -137,6 +137,7 @@ pub fn read_addresses(line: &[u8]) -> Option<Addresses>
 }
 
 // Day 01 to 31, 00 to 23, 00 to 59.
+#[tactic(auto, using(text::specs::Laws::Tests::and_is), unfolding(crate::specs::Filing::real_filing))]
 fn real_filing(t: u32) -> bool
     ensures { result ≡ real_filing t }
 {
@@ -165,6 +166,7 @@ pub fn read_filing(line: &[u8]) -> Option<Filing>
     })
 }
 
+#[tactic(auto, using(text::specs::Laws::Tests::and_is))]
 fn is_serial(n: u32) -> bool
     ensures { result ≡ is_serial n }
 {
@@ -231,6 +233,7 @@ pub fn read_serial(line: &[u8]) -> Option<Found>
 }
 
 // Whether a text is `n` letters and nothing more.
+#[tactic(auto, using(text::specs::Laws::Tests::and_is, crate::proofs::Groups::letters_are), unfolding(crate::specs::Letters::is_letters))]
 fn is_letters(s: &[u8], n: usize) -> bool
     ensures { result ≡ is_letters n s.now }
 {
@@ -263,6 +266,7 @@ fn is_priority(p: u8) -> bool
 }
 
 // GG or DD, 1 to 8 addresses of letters, zeros past them.
+#[tactic(auto, using(text::specs::Laws::Tests::and_is), unfolding(crate::specs::Addresses::valid_addresses))]
 pub fn valid_addresses(a: Addresses) -> bool
     ensures { result ≡ valid_addresses a }
 {
@@ -273,6 +277,7 @@ pub fn valid_addresses(a: Addresses) -> bool
 }
 
 // A real filing time, and an originator of letters.
+#[tactic(auto, using(text::specs::Laws::Tests::and_is), unfolding(crate::specs::Filing::valid_filing))]
 pub fn valid_filing(f: Filing) -> bool
     ensures { result ≡ valid_filing f }
 {
@@ -280,15 +285,18 @@ pub fn valid_filing(f: Filing) -> bool
 }
 
 // A region and an aerodrome of letters, and a serial 0001 to 9999.
+#[tactic(auto, using(text::specs::Laws::Tests::and_is), unfolding(crate::specs::Heading::valid_title))]
 pub fn valid_title(t: Title) -> bool
     ensures { result ≡ valid_title t }
 {
     is_letters(&t.region, 2) && is_serial(u32::from(t.serial)) && is_letters(&t.aerodrome, 4)
 }
 
+#[tactic(auto, unfolding(text::specs::Piece::spell))]
 fn put_priority(rest: &mut [u8], priority: u8) -> usize
     ensures { Put 0 (canonical (spell (priority_name priority))) rest.old rest.new result }
 {
+    // stays: C interface: the priority is a number
     match priority {
         1 => put(rest, 0, b"GG"),
         2 => put(rest, 0, b"DD"),
@@ -354,6 +362,7 @@ pub fn put_serial(rest: &mut [u8], serial: u16) -> usize
 }
 
 // Puts line 5.
+#[tactic(auto, using(crate::proofs::Writes::verbatim_text), unfolding(crate::specs::Heading::aerodrome_pieces))]
 pub fn put_aerodrome(rest: &mut [u8], aerodrome: [u8; 4]) -> usize
     ensures { Put 0 (canonical (aerodrome_pieces aerodrome)) rest.old rest.new result }
 {

@@ -1,30 +1,36 @@
--- Plain language byte by byte.
-use Prim.Native.Nat.{ℕ, suc, ◌-◌, ◌<◌, ◌≤◌}
-use mathlib.Core.Path.{◌≡◌, refl}
-use mathlib.Core.List.{List, [], ◌∷◌}
-use mathlib.Core.Bool.{Bool, not}
-use native.Mathlib.Omega.{arith}
-use lib.Dec.{eqb}
-use lib.ListN.{length, get_or}
-use borrow.Author.Tests.{le-leb}
+-- How plain language begins and ends: the library's words and the project's.
+use Rattle.std.specs.Prelude.{ℕ, suc, ◌-◌, ◌≡◌, refl, List, [], ◌∷◌, Bool, true, false, eqb, leb, nat_eq, not, ◌&&◌, length}
+use Rattle.std.proofs.Common.{◌∙◌, arith}
+use Rattle.std.specs.List.{starts_with, ends_with}
 use Rattle.text.specs.Choice.{◌and◌, all, head_is}
 use Rattle.text.specs.Names.{is_plain_byte}
 use Rattle.items.specs.Language.{last_is, valid_language}
 
-last_byte : (c : ℕ) (l : List ℕ) → 0 < length l → last_is c l ≡ eqb (get_or l (length l - 1) 0) c
+and-true : (b : Bool) → (b && true) ≡ b
+and-true true = refl
+and-true false = refl
+
+eqb-sym : (a b : ℕ) → eqb a b ≡ eqb b a
+eqb-sym a b = grind arith
+
+pub head-starts : (c : ℕ) (l : List ℕ) → starts_with nat_eq l (c ∷ []) ≡ head_is (eqb c) l
+head-starts c [] = refl
+head-starts c (x ∷ l) = and-true (eqb c x)
+
+pub last-ends : (c : ℕ) (l : List ℕ) → ends_with nat_eq l (c ∷ []) ≡ last_is c l
 unfolding last_is
-last_byte c [] h = absurd (omega arith)
-last_byte c (x ∷ []) h = refl
-last_byte c (x ∷ y ∷ l) h =
+last-ends c [] = refl
+last-ends c (x ∷ []) = and-true (eqb c x) ∙ eqb-sym c x
+last-ends c (x ∷ y ∷ l) =
     let z : suc (suc (length l)) - 1 ≡ suc (suc (length l) - 1) = omega arith in
-    rw z (last_byte c (y ∷ l) (omega arith))
+    rw z (last-ends c (y ∷ l))
 
-first_byte : (p : ℕ → Bool) (l : List ℕ) → 0 < length l → head_is p l ≡ p (get_or l 0 0)
-first_byte p [] h = absurd (omega arith)
-first_byte p (x ∷ l) h = refl
-
--- of 2 to 400 bytes: the tests of the code
-pub language-tests : (l : List ℕ) → 2 ≤ length l → length l ≤ 400
-    → valid_language l ≡ (all is_plain_byte l and not (eqb 32 (get_or l 0 0)) and eqb (get_or l (length l - 1) 0) 46)
+-- the length is looked at first
+pub language-sized : (l : List ℕ) (t : Bool) → t ≡ (leb 2 (length l) and leb (length l) 400)
+    → valid_language l ≡ (t and (all is_plain_byte l and (not (head_is (eqb 32) l) and last_is 46 l)))
 unfolding valid_language ◌and◌
-language-tests l h k = rw (le-leb 2 (length l) h, le-leb (length l) 400 k, first_byte (eqb 32) l (omega arith), last_byte 46 l (omega arith))
+language-sized l t e = rw e (go (leb 2 (length l)))
+  where
+    go : (b : Bool) → (b and (leb (length l) 400 and (all is_plain_byte l and (not (head_is (eqb 32) l) and last_is 46 l)))) ≡ ((b and leb (length l) 400) and (all is_plain_byte l and (not (head_is (eqb 32) l) and last_is 46 l)))
+    go true = refl
+    go false = refl

@@ -4,7 +4,6 @@ pub mod ItemText
 pub mod ReadItem
 pub mod Awareness
 pub mod Language
-pub mod Code
 pub mod Tables
 pub mod Parts
 pub mod Laws

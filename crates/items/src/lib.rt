@@ -2,24 +2,36 @@
 
 #![tactic(auto)]
 
-ghost use Rattle.std.specs.Prelude.{◌≡◌, ◌≤◌, length, take, drop};
-ghost use Rattle.text.specs.Choice.{all, member, head_is};
+ghost use Rattle.std.specs.Prelude.{not, eqb, ◌≡◌, ◌≤◌, length, take, drop};
+ghost use Rattle.text.specs.Choice.{◌and◌, all, member, head_is};
 ghost use Rattle.text.specs.Names.{is_name};
 ghost use Rattle.text.specs.Piece.{canonical, verbatim};
 ghost use Rattle.text.specs.Put.{Put};
 ghost use Rattle.text.specs.Arrays.{slots};
-ghost use Rattle.items.specs.Item.{letters, on_runway, highest_for, is_between, runway_fits, amount_fits, edge_fits, count_fits, valid_slot, is_new, slots_fit, taxiways_fit, name_fits, numbers_fit, valid_item};
-ghost use Rattle.items.specs.Awareness.{same_runway, other_apron, may_repeat, may_follow, sound_items, is_blank, no_numbers, blank_item, is_blank_item};
+ghost use Rattle.items.specs.Item.{taxiway_size, letters, on_runway, highest_for, is_between, runway_fits, amount_fits, edge_fits, count_fits, valid_slot, is_new, slots_fit, taxiways_fit, name_fits, numbers_fit, valid_item};
+ghost use Rattle.items.specs.Awareness.{same_runway, other_apron, may_repeat, may_follow, in_order, sound_items, is_blank, no_numbers, blank_item, is_blank_item};
 ghost use Rattle.items.specs.Parts.{items_of, language_of, holds_items, holds_language};
-ghost use Rattle.items.specs.Language.{valid_language};
-ghost use Rattle.items.specs.Code.Held.{SlotEnd};
+ghost use Rattle.items.specs.Language.{space_byte, full_stop, last_is, valid_language};
 
 pub mod words;
 
 use fill::put;
 use runway::valid_runway;
-use scan::{all_plain, counted, run, same_bytes, zeros_from};
+use scan::{all_plain, counted, run, zeros_from};
 use text::Class;
+
+// At most eight taxiways, in slots of three bytes.
+pub const MOST_TAXIWAYS: u8 = 8;
+
+pub const TAXIWAY_SIZE: usize = 3;
+
+pub const TAXIWAY_BYTES: usize = 24;
+
+pub const APRON_SIZE: usize = 16;
+
+pub const MOST_ITEMS: u8 = 32;
+
+pub const MOST_LANGUAGE: usize = 400;
 
 // An awareness item, zeros in every field that its letter does not use.
 #[repr(C)]
@@ -37,9 +49,9 @@ pub struct Item {
     // N and P: how many taxiways; P with none is ALL TWY
     pub count: u8,
     // three bytes for each
-    pub taxiways: [u8; 24],
+    pub taxiways: [u8; TAXIWAY_BYTES],
     // R: the apron's name; none is ALL APRON
-    pub name: [u8; 16],
+    pub name: [u8; APRON_SIZE],
 }
 
 // Up to 32 items, zeros past the count.
@@ -55,7 +67,7 @@ pub struct Items {
 #[derive(Clone, Copy, PartialEq, Eq)]
 pub struct Language {
     pub length: u16,
-    pub bytes: [u8; 400],
+    pub bytes: [u8; MOST_LANGUAGE],
 }
 
 impl Items {
@@ -85,66 +97,19 @@ impl Language {
     }
 }
 
-pub const MOST_TAXIWAYS: u8 = 8;
-
-pub const TAXIWAY_SIZE: usize = 3;
-
-const TAXIWAY_BYTES: usize = 24;
-
-pub const APRON_SIZE: usize = 16;
-
-pub const MOST_ITEMS: u8 = 32;
-
-const MOST_LANGUAGE: usize = 400;
-
 // ---- What an item may hold
 
 fn is_item(letter: u8) -> bool
     ensures { result ≡ member letters letter }
 {
-    if b'I' == letter {
-        return true;
-    }
-    if b'J' == letter {
-        return true;
-    }
-    if b'K' == letter {
-        return true;
-    }
-    if b'L' == letter {
-        return true;
-    }
-    if b'M' == letter {
-        return true;
-    }
-    if b'N' == letter {
-        return true;
-    }
-    if b'O' == letter {
-        return true;
-    }
-    if b'P' == letter {
-        return true;
-    }
-    b'R' == letter
+    matches!(letter, b'I'..=b'P' | b'R')
 }
 
+#[tactic(auto, unfolding(crate::specs::Item::on_runway))]
 fn on_runway(letter: u8) -> bool
     ensures { result ≡ on_runway letter }
 {
-    if b'I' == letter {
-        return true;
-    }
-    if b'K' == letter {
-        return true;
-    }
-    if b'L' == letter {
-        return true;
-    }
-    if b'M' == letter {
-        return true;
-    }
-    b'O' == letter
+    matches!(letter, b'I' | b'K' | b'L' | b'M' | b'O')
 }
 
 // Runways of item I go up to 36.
@@ -158,96 +123,69 @@ fn runway_fits(i: Item) -> bool
     ensures { result ≡ runway_fits i }
 {
     if on_runway(i.letter) {
-        return valid_runway(highest_runway(i.letter), i.number, i.side);
+        valid_runway(highest_runway(i.letter), i.number, i.side)
+    } else {
+        i.number == 0 && i.side == 0
     }
-    if i.number != 0 {
-        return false;
-    }
-    i.side == 0
-}
-
-fn is_between(low: u16, high: u16, x: u16) -> bool
-    ensures { result ≡ is_between low high x }
-{
-    if x < low {
-        return false;
-    }
-    x <= high
 }
 
 fn amount_fits(i: Item) -> bool
     ensures { result ≡ amount_fits i }
 {
-    if i.letter == b'I' {
-        return is_between(100, 9999, i.amount);
+    match i.letter {
+        b'I' => (100..=9999).contains(&i.amount),
+        b'M' => (1..=99).contains(&i.amount),
+        _ => i.amount == 0,
     }
-    if i.letter == b'M' {
-        return is_between(1, 99, i.amount);
-    }
-    i.amount == 0
 }
 
 fn edge_fits(i: Item) -> bool
     ensures { result ≡ edge_fits i }
 {
-    if i.letter == b'M' {
-        if i.edge < 1 {
-            return false;
-        }
-        return i.edge <= 3;
+    match i.letter {
+        b'M' => (1..=3).contains(&i.edge),
+        _ => i.edge == 0,
     }
-    i.edge == 0
 }
 
+#[tactic(auto, unfolding(crate::specs::Item::count_fits))]
 fn count_fits(i: Item) -> bool
     ensures { result ≡ count_fits i }
 {
-    if i.letter == b'N' {
-        return 1 <= i.count;
+    match i.letter {
+        b'N' => 1 <= i.count,
+        b'P' => true,
+        _ => i.count == 0,
     }
-    if i.letter == b'P' {
-        return true;
-    }
-    i.count == 0
 }
 
-// The end of the slot that starts at `at`, or of the array where that comes first.
-fn slot_end(t: &[u8], at: usize) -> usize
-    requires { at ≤ length t.now }
-    ensures { SlotEnd t.now at result }
+// The first slot of three bytes, or all that is left, and what lies behind it.
+pub fn first_slot(t: &[u8]) -> (&[u8], &[u8])
+    ensures slot { result.0.now ≡ take taxiway_size t.now }
+    ensures rest { result.1.now ≡ drop taxiway_size t.now }
 {
-    if t.len() - at < TAXIWAY_SIZE {
-        t.len()
-    } else {
-        at + TAXIWAY_SIZE
-    }
+    t.split_at(TAXIWAY_SIZE.min(t.len()))
 }
 
 fn valid_slot(s: &[u8]) -> bool
     ensures { result ≡ valid_slot s.now }
 {
-    if s.len() != TAXIWAY_SIZE {
-        return false;
-    }
-    if counted(s, 0, Class::Letters, 1) {
-        return zeros_from(s, run(s, 0, Class::Names));
-    }
-    false
+    s.len() == TAXIWAY_SIZE
+        && counted(s, 0, Class::Letters, 1)
+        && zeros_from(s, run(s, 0, Class::Names))
 }
 
 // Whether `w` is none of the `n` taxiways at the front of `t`.
 fn is_new(w: &[u8], t: &[u8], n: u8) -> bool
     ensures { result ≡ is_new w.now (slots 3 n t.now) }
 {
-    let mut at = 0;
-    let mut left = n;
-    while 0 < left {
-        let end = slot_end(t, at);
-        if same_bytes(w, &t[at..end]) {
+    let mut rest = t;
+    for _ in 0..n {
+        let (slot, others) = first_slot(rest);
+        if w == slot {
             return false;
         }
-        at = end;
-        left -= 1;
+        rest = others;
     }
     true
 }
@@ -256,81 +194,51 @@ fn is_new(w: &[u8], t: &[u8], n: u8) -> bool
 fn slots_fit(n: u8, t: &[u8]) -> bool
     ensures { result ≡ slots_fit n t.now }
 {
-    let mut at = 0;
-    let mut left = n;
-    while 0 < left {
-        let end = slot_end(t, at);
-        left -= 1;
-        if valid_slot(&t[at..end]) {
-            if is_new(&t[at..end], &t[end..], left) {
-                at = end;
-            } else {
-                return false;
-            }
-        } else {
+    let mut rest = t;
+    for k in 0..n {
+        let (slot, others) = first_slot(rest);
+        if !(valid_slot(slot) && is_new(slot, others, n - k - 1)) {
             return false;
         }
+        rest = others;
     }
-    zeros_from(t, at)
+    zeros_from(rest, 0)
 }
 
-fn taxiways_fit(n: u8, t: &[u8]) -> bool
+fn taxiways_fit(n: u8, t: &[u8; TAXIWAY_BYTES]) -> bool
     ensures { result ≡ taxiways_fit n t.now }
 {
-    if MOST_TAXIWAYS < n {
-        return false;
-    }
-    if t.len() != TAXIWAY_BYTES {
-        return false;
-    }
-    slots_fit(n, t)
+    n <= MOST_TAXIWAYS && slots_fit(n, t)
 }
 
-fn name_fits(letter: u8, name: &[u8]) -> bool
+fn name_fits(letter: u8, name: &[u8; APRON_SIZE]) -> bool
     ensures { result ≡ name_fits letter name.now }
 {
-    if name.len() != APRON_SIZE {
-        return false;
-    }
-    if letter == b'R' {
-        return zeros_from(name, run(name, 0, Class::Names));
-    }
-    zeros_from(name, 0)
+    let end = if letter == b'R' {
+        run(name, 0, Class::Names)
+    } else {
+        0
+    };
+    zeros_from(name, end)
 }
 
 // The numbers of an item.
 pub fn numbers_fit(i: Item) -> bool
     ensures { result ≡ numbers_fit i }
 {
-    if is_item(i.letter) {
-        if runway_fits(i) {
-            if amount_fits(i) {
-                if edge_fits(i) {
-                    return count_fits(i);
-                }
-            }
-        }
-    }
-    false
+    is_item(i.letter) && runway_fits(i) && amount_fits(i) && edge_fits(i) && count_fits(i)
 }
 
 pub fn valid_item(i: Item) -> bool
     ensures { result ≡ valid_item i }
 {
-    if numbers_fit(i) {
-        let taxiways = i.taxiways;
-        if taxiways_fit(i.count, &taxiways) {
-            let name = i.name;
-            return name_fits(i.letter, &name);
-        }
-    }
-    false
+    numbers_fit(i) && taxiways_fit(i.count, &i.taxiways) && name_fits(i.letter, &i.name)
 }
 
 // ---- Which items may stand together
 
 // Whether a name stands in the field.
-fn is_named(name: &[u8]) -> bool
+pub fn is_named(name: &[u8]) -> bool
     ensures { result ≡ head_is is_name name.now }
 {
     counted(name, 0, Class::Names, 1)
@@ -340,46 +248,37 @@ fn is_named(name: &[u8]) -> bool
 fn other_apron(a: Item, b: Item) -> bool
     ensures { result ≡ other_apron a b }
 {
-    let x = a.name;
-    let y = b.name;
-    if is_named(&x) {
-        if is_named(&y) {
-            return !same_bytes(&x, &y);
-        }
-    }
-    false
+    is_named(&a.name) && is_named(&b.name) && a.name != b.name
 }
 
 fn same_runway(a: Item, b: Item) -> bool
     ensures { result ≡ same_runway a b }
 {
-    if a.number != b.number {
-        return false;
-    }
-    a.side == b.side
+    a.number == b.number && a.side == b.side
 }
 
 // Whether two items of one letter may stand in one line.
+#[tactic(auto, unfolding(crate::specs::Awareness::may_repeat))]
 fn may_repeat(a: Item, b: Item) -> bool
     ensures { result ≡ may_repeat a b }
 {
     if on_runway(a.letter) {
-        return !same_runway(a, b);
+        !same_runway(a, b)
+    } else {
+        a.letter == b'R' && other_apron(a, b)
     }
-    if a.letter == b'R' {
-        return other_apron(a, b);
-    }
-    false
 }
 
 // Whether `b` may stand somewhere behind `a`.
+#[tactic(auto, unfolding(crate::specs::Awareness::may_follow))]
 pub fn may_follow(a: Item, b: Item) -> bool
     ensures { result ≡ may_follow a b }
 {
     if a.letter == b.letter {
-        return may_repeat(a, b);
+        may_repeat(a, b)
+    } else {
+        a.letter < b.letter
     }
-    a.letter < b.letter
 }
 
 // ---- Items that are not there
@@ -391,8 +290,8 @@ pub const BLANK_ITEM: Item = Item {
     amount: 0,
     edge: 0,
     count: 0,
-    taxiways: [0; 24],
-    name: [0; 16],
+    taxiways: [0; TAXIWAY_BYTES],
+    name: [0; APRON_SIZE],
 };
 
 pub fn blank_item() -> Item
@@ -401,92 +300,33 @@ pub fn blank_item() -> Item
     BLANK_ITEM
 }
 
-fn is_blank_bytes(s: &[u8], n: usize) -> bool
-    ensures { result ≡ is_blank n s.now }
-{
-    if s.len() != n {
-        return false;
-    }
-    zeros_from(s, 0)
-}
-
-fn has_no_numbers(i: Item) -> bool
-    ensures { result ≡ no_numbers i }
-{
-    if i.letter != 0 {
-        return false;
-    }
-    if i.number != 0 {
-        return false;
-    }
-    if i.side != 0 {
-        return false;
-    }
-    if i.amount != 0 {
-        return false;
-    }
-    if i.edge != 0 {
-        return false;
-    }
-    i.count == 0
-}
-
 pub fn is_blank_item(i: Item) -> bool
     ensures { result ≡ is_blank_item i }
 {
-    if has_no_numbers(i) {
-        let taxiways = i.taxiways;
-        if is_blank_bytes(&taxiways, TAXIWAY_BYTES) {
-            let name = i.name;
-            return is_blank_bytes(&name, APRON_SIZE);
-        }
-    }
-    false
+    i == BLANK_ITEM
 }
 
 // ---- The items of a record
 
-// The first `n` items are valid and in order.
-fn valid_front(items: [Item; 32], n: usize) -> bool
-    ensures { result ≡ sound_items (take n items) }
+// Each of these items may stand behind all before it.
+fn in_order(items: &[Item]) -> bool
+    ensures { result ≡ in_order items.now }
 {
-    let mut k = 0;
-    while k < n {
-        if items.len() <= k {
-            return true;
-        }
-        let i = items[k];
-        if !valid_item(i) {
+    let mut rest = items;
+    while let Some((a, others)) = rest.split_first() {
+        if !others.iter().all(|b| may_follow(*a, *b)) {
             return false;
         }
-        // in place, since a call would copy the array for each item
-        let mut j = 0;
-        while j < k {
-            let a = items[j];
-            if !may_follow(a, i) {
-                return false;
-            }
-            j += 1;
-        }
-        k += 1;
+        rest = others;
     }
     true
 }
 
-// The items from `n` on are blank.
-fn blank_rest(items: [Item; 32], n: usize) -> bool
-    ensures { result ≡ all is_blank_item (drop n items) }
+// These items are valid and in order.
+fn sound_items(items: &[Item]) -> bool
+    ensures { result ≡ sound_items items.now }
 {
-    let mut k = n;
-    while k < items.len() {
-        let i = items[k];
-        if is_blank_item(i) {
-            k += 1;
-        } else {
-            return false;
-        }
-    }
-    true
+    items.iter().all(|i| valid_item(*i)) && in_order(items)
 }
 
 // Valid items in order, and zeros past the count.
@@ -496,51 +336,35 @@ pub fn holds_items(i: Items) -> bool
     if MOST_ITEMS < i.count {
         return false;
     }
-    let items = i.items;
-    let n = i.count as usize;
-    if valid_front(items, n) {
-        return blank_rest(items, n);
-    }
-    false
+    let (listed, rest) = i.items.split_at(usize::from(i.count));
+    sound_items(listed) && rest.iter().all(|item| is_blank_item(*item))
 }
 
 // ---- Plain language
 
+// No leading space, and last a full stop.
+fn is_sentence(part: &[u8]) -> bool
+    ensures { result ≡ (not (head_is (eqb space_byte) part.now) and last_is full_stop part.now) }
+{
+    !part.starts_with(b" ") && part.ends_with(b".")
+}
+
 pub fn valid_language(part: &[u8]) -> bool
     ensures { result ≡ valid_language part.now }
 {
-    let n = part.len();
-    if n < 2 {
-        return false;
-    }
-    if MOST_LANGUAGE < n {
-        return false;
-    }
-    if all_plain(part) {
-        if part[0] == b' ' {
-            return false;
-        }
-        return part[n - 1] == b'.';
-    }
-    false
+    (2..=MOST_LANGUAGE).contains(&part.len()) && all_plain(part) && is_sentence(part)
 }
 
 // No plain language, or plain language that is valid; zeros past the length.
 pub fn holds_language(l: Language) -> bool
     ensures { result ≡ holds_language l }
 {
-    let bytes = l.bytes;
-    let n = l.length as usize;
-    if bytes.len() < n {
+    let length = usize::from(l.length);
+    if MOST_LANGUAGE < length {
         return false;
     }
-    if n == 0 {
-        return zeros_from(&bytes, 0);
-    }
-    if valid_language(&bytes[..n]) {
-        return zeros_from(&bytes, n);
-    }
-    false
+    let (text, rest) = l.bytes.split_at(length);
+    (length == 0 || valid_language(text)) && zeros_from(rest, 0)
 }
 
 // Plain language is put as it stands.

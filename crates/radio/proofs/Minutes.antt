@@ -31,9 +31,9 @@ date-later day month left n h e k inv =
     let d : days_of month ≤ left = subst (λ z. z ≤ left) e k in
     rw (e, add-one) (sym (date-on (12 - suc month) month left d) ∙ (ap (λ z. date_from z month left) (omega arith) ∙ inv))
 
-pub date-last : (day month left : ℕ) → 12 ≤ month → month ≤ 12 → date_from (12 - month) month left ≡ date_of day → month * 100 + (left + 1) ≡ date_of day
+pub date-last : (day month left : ℕ) → month ≡ 12 → date_from (12 - month) month left ≡ date_of day → 1200 + (left + 1) ≡ date_of day
 unfolding date_from
-date-last day month left h k inv = let z : month ≡ 12 = omega arith in rw z (rw z at inv)
+date-last day month left z inv = rw z at inv
 
 -- a date has four digits
 pub date-small : (d : ℕ) → d < 366 → date_of d < 1300

@@ -18,7 +18,7 @@ use Rattle.runway.specs.Time.{real_time}
 use Rattle.row.specs.declared.Row.{Row}
 use Rattle.row.specs.Row.{valid_row}
 use Rattle.body.specs.declared.Rows.{Rows}
-use Rattle.body.specs.Rows.{most_rows, rows_of, make_rows, new_runways, valid_rows}
+use Rattle.body.specs.Rows.{rows_of, make_rows, new_runways, valid_rows}
 use Rattle.body.specs.Laws.Parts.{rows-kept}
 use Rattle.radio.specs.declared.Radio.{Radio}
 use Rattle.radio.specs.Number.{part, is_byte, number_bytes, read_number}
@@ -29,7 +29,7 @@ use Rattle.radio.specs.Answers.{answer, radio_reading, sending, written, filled,
 use Rattle.radio.specs.Laws.Minutes.{minutes-small, time-back, time-real, minutes-back}
 use Rattle.radio.specs.Laws.Record.{record-back, record-sound}
 use Rattle.radio.specs.Laws.Arrays.{send-good, array_back, array-sound}
-use Rattle.radio.specs.Laws.Size.{longest, few_bytes, record-size}
+use Rattle.radio.specs.Laws.Size.{longest, record-size}
 use Rattle.radio.specs.Laws.Refusals.{Within, reading_refusals, writing_refusals, record-within, write-within, sending-within, not-by-zero}
 use Rattle.radio.specs.Laws.Left.{Stays, record-stays}
 

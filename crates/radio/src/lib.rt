@@ -2,18 +2,18 @@
 
 #![tactic(auto)]
 
-ghost use Rattle.std.specs.Prelude.{◌≡◌, [], ◌∷◌, true, ◌+◌, ◌-◌, ◌<◌, ◌≤◌, leb, length, drop};
-ghost use Rattle.text.specs.Choice.{all};
+ghost use Rattle.std.specs.Prelude.{◌≡◌, [], true, ◌+◌, ◌-◌, ◌*◌, ◌<◌, ◌≤◌, leb, length};
 ghost use Rattle.text.specs.Put.{Put};
+ghost use Rattle.text.specs.Code.Writes.{as_written};
 ghost use Rattle.runway.specs.Time.{real_time};
 ghost use Rattle.row.specs.Row.{valid_row};
 ghost use Rattle.body.specs.Rows.{most_rows, rows_of};
 ghost use Rattle.radio.specs.Number.{number_bytes, read_number};
 ghost use Rattle.radio.specs.Minutes.{year_minutes, days_in, date_of, minutes_of, time_of};
-ghost use Rattle.radio.specs.Fields.{order, number_of, may_be, fill};
-ghost use Rattle.radio.specs.Record.{each, row_bytes, read_row, read_rows, radio_record};
-ghost use Rattle.radio.specs.Answers.{refused, answer, radio_reading, unwritten, WroteRadio};
-ghost use Rattle.radio.specs.Code.Held.{of_row, no_row, HeldNumber, HeldRow, groups_of};
+ghost use Rattle.radio.specs.Fields.{number_of, may_be, fill};
+ghost use Rattle.radio.specs.Record.{row_bytes, sendable, read_row, read_rows, radio_record};
+ghost use Rattle.radio.specs.Answers.{answer, radio_reading, WroteRadio};
+ghost use Rattle.radio.specs.Code.Held.{of_row, HeldNumber, HeldRow, as_radio};
 
 use Field::{Code, Coverage, Depth, Description, Minutes, Runway, Width};
 use body::{MOST_ROWS, Rows, all_new, all_valid, blank_rows, is_among};
@@ -22,13 +22,14 @@ use row::{GREATEST_WIDTH, Row, blank_row, valid_row};
 use runway::days_of;
 use surface::GREATEST_DEPTH;
 use surface::description::DRY;
-use text::{Written, refusal};
+use text::refusal::Refusal;
+use text::{Found, Written};
 
 // The rows of a record, or why they are none.
 #[repr(C)]
 #[derive(Clone, Copy)]
 pub struct Radio {
-    // 0 for a record that is read
+    // 0 for a record that is read; stays: C interface
     pub refusal: u8,
     pub rows: Rows,
 }
@@ -36,78 +37,41 @@ pub struct Radio {
 // ---- A number
 
 // The high bit of a group: another one follows.
-const MORE: u32 = 128;
+const MORE: u8 = 128;
 
-// The number at the front of a record, and the place behind it.
-#[derive(Clone, Copy)]
-pub struct NumberFound {
-    pub refusal: u8,
-    pub value: u32,
-    pub next: usize,
-}
+// A group holds a number below this.
+const GROUP: u32 = 128;
 
-const CUT_SHORT: NumberFound = NumberFound {
-    refusal: refusal::RECORD_CUT_SHORT,
-    value: 0,
-    next: 0,
-};
-
-const WRONG_FORM: NumberFound = NumberFound {
-    refusal: refusal::NUMBER_FORM,
-    value: 0,
-    next: 0,
-};
-
-fn group(b: u8) -> u32
-    ensures { (result ≡ b) × (result < 256) }
+// The number of a group that has its high bit set and of the groups above it.
+fn above(group: u8, high: u32) -> u32
+    requires { (128 ≤ group) × (high < 65536) }
+    ensures { result ≡ group - 128 + 128 * high }
 {
-    b as u32
+    u32::from(group - MORE) + GROUP * high
 }
 
 // A number has up to three groups, low group first, and none more than it needs.
-fn read_number(s: &[u8]) -> NumberFound
+fn read_number(s: &[u8]) -> Result<Found, Refusal>
     ensures { HeldNumber s.now (read_number s.now) result }
 {
-    if s.len() == 0 {
-        return CUT_SHORT;
-    }
-    let a = group(s[0]);
-    if a < MORE {
-        return NumberFound {
-            refusal: 0,
-            value: a,
+    match *s {
+        [a, ..] if a < MORE => Ok(Found {
+            value: u32::from(a),
             next: 1,
-        };
-    }
-    if s.len() == 1 {
-        return CUT_SHORT;
-    }
-    let b = group(s[1]);
-    if b == 0 {
-        return WRONG_FORM;
-    }
-    if b < MORE {
-        return NumberFound {
-            refusal: 0,
-            value: a - MORE + MORE * b,
+        }),
+        [_, b, ..] if b == 0 => Err(Refusal::NumberForm),
+        [a, b, ..] if b < MORE => Ok(Found {
+            value: above(a, u32::from(b)),
             next: 2,
-        };
-    }
-    if s.len() == 2 {
-        return CUT_SHORT;
-    }
-    let c = group(s[2]);
-    if c == 0 {
-        return WRONG_FORM;
-    }
-    if c < MORE {
-        return NumberFound {
-            refusal: 0,
-            value: a - MORE + MORE * (b - MORE + MORE * c),
+        }),
+        [_, _, c, ..] if c == 0 => Err(Refusal::NumberForm),
+        [a, b, c, ..] if c < MORE => Ok(Found {
+            value: above(a, above(b, u32::from(c))),
             next: 3,
-        };
+        }),
+        [_, _, _, ..] => Err(Refusal::NumberForm),
+        _ => Err(Refusal::RecordCutShort),
     }
-    WRONG_FORM
 }
 
 // ---- Minutes
@@ -123,16 +87,14 @@ fn date_of(day: u32) -> u32
     ensures { result ≡ date_of day }
 {
     let mut left = day;
-    let mut month: u32 = 1;
-    while month < 12 {
+    for month in 1..12 {
         let days = days_of(month);
         if left < days {
             return month * 100 + (left + 1);
         }
         left -= days;
-        month += 1;
     }
-    month * 100 + (left + 1)
+    1200 + (left + 1)
 }
 
 // MMDDhhmm of a minute of a leap year.
@@ -151,10 +113,8 @@ fn days_before(month: u32) -> u32
     ensures { (result ≡ days_in (month - 1)) × (result ≤ 341) }
 {
     let mut days: u32 = 0;
-    let mut m: u32 = 1;
-    while m < month {
+    for m in 1..month {
         days += days_of(m);
-        m += 1;
     }
     days
 }
@@ -204,84 +164,45 @@ const ORDER: [Field; FIELDS] = [
     Width,
 ];
 
-// The field at a place of the order: the first of those that are left from there.
-fn field_at(i: usize) -> Field
-    requires { i < length order }
-    ensures { (drop i order ≡ result ∷ drop (i + 1) order) × (of_row result ≡ true) }
-{
-    ORDER[i]
-}
-
 // Runways 01 to 18R, each number times four.
 const LEAST_RUNWAY: u32 = 4;
 
 const GREATEST_RUNWAY: u32 = 75;
 
 // What the number alone may be.
+#[tactic(auto, using(text::specs::Laws::Tests::and_is))]
 fn may_be(field: Field, x: u32) -> bool
     ensures { result ≡ may_be field x }
 {
     match field {
         Minutes => x < YEAR_MINUTES,
-        Runway => {
-            if x < LEAST_RUNWAY {
-                return false;
-            }
-            x <= GREATEST_RUNWAY
-        }
+        Runway => (LEAST_RUNWAY..=GREATEST_RUNWAY).contains(&x),
         Code(_) => x <= 6,
         Coverage(_) => x <= 4,
-        Depth(_) => {
-            if x == 0 {
-                return true;
-            }
-            if x < 3 {
-                return false;
-            }
-            x <= GREATEST_DEPTH
-        }
-        Description(_) => x <= DRY as u32,
-        Width => x <= GREATEST_WIDTH as u32,
+        Depth(_) => x == 0 || (3..=GREATEST_DEPTH).contains(&x),
+        Description(_) => x <= u32::from(DRY),
+        Width => x <= u32::from(GREATEST_WIDTH),
     }
 }
 
 // The row with a number in its place.
-fn filled(row: Row, field: Field, x: u32) -> Row
+fn filled(mut row: Row, field: Field, x: u32) -> Row
     requires { (may_be field x ≡ true) × (of_row field ≡ true) }
     ensures { result ≡ fill row field x }
 {
-    let mut r = row;
     match field {
-        Minutes => {
-            r.time = time_of(x);
-            r
-        }
+        Minutes => row.time = time_of(x),
         Runway => {
-            r.number = (x / 4) as u8;
-            r.side = (x % 4) as u8;
-            r
+            row.number = (x / 4) as u8;
+            row.side = (x % 4) as u8;
         }
-        Code(i) => {
-            r.thirds[i].code = x as u8;
-            r
-        }
-        Coverage(i) => {
-            r.thirds[i].coverage = (x * 25) as u8;
-            r
-        }
-        Depth(i) => {
-            r.thirds[i].depth = x as u16;
-            r
-        }
-        Description(i) => {
-            r.thirds[i].description = x as u8;
-            r
-        }
-        Width => {
-            r.width = x as u8;
-            r
-        }
+        Code(i) => row.thirds[i].code = x as u8,
+        Coverage(i) => row.thirds[i].coverage = (x * 25) as u8,
+        Depth(i) => row.thirds[i].depth = x as u16,
+        Description(i) => row.thirds[i].description = x as u8,
+        Width => row.width = x as u8,
     }
+    row
 }
 
 // The number that stands for a field of a valid row.
@@ -291,12 +212,12 @@ fn number_of(row: Row, field: Field) -> u32
 {
     match field {
         Minutes => minutes_of(row.time),
-        Runway => row.number as u32 * 4 + row.side as u32,
-        Code(i) => row.thirds[i].code as u32,
-        Coverage(i) => (row.thirds[i].coverage / 25) as u32,
-        Depth(i) => row.thirds[i].depth as u32,
-        Description(i) => row.thirds[i].description as u32,
-        Width => row.width as u32,
+        Runway => u32::from(row.number) * 4 + u32::from(row.side),
+        Code(i) => u32::from(row.thirds[i].code),
+        Coverage(i) => u32::from(row.thirds[i].coverage / 25),
+        Depth(i) => u32::from(row.thirds[i].depth),
+        Description(i) => u32::from(row.thirds[i].description),
+        Width => u32::from(row.width),
     }
 }
 
@@ -304,151 +225,92 @@ fn number_of(row: Row, field: Field) -> u32
 
 // The row at the front of a record, and the place behind it.
 #[derive(Clone, Copy)]
-pub struct RowFound {
-    pub refusal: u8,
-    pub row: Row,
-    pub next: usize,
-}
-
-fn no_row(refusal: u8) -> RowFound
-    ensures { result ≡ no_row refusal }
-{
-    let row = blank_row();
-    RowFound {
-        refusal,
-        row,
-        next: 0,
-    }
+struct RowFound {
+    row: Row,
+    next: usize,
 }
 
 // Each number is judged when it is complete, the row behind its width.
-fn read_row(s: &[u8]) -> RowFound
+fn read_row(s: &[u8]) -> Result<RowFound, Refusal>
     ensures { HeldRow s.now (read_row s.now) result }
 {
     let mut row = blank_row();
-    let mut at: usize = 0;
-    let mut i: usize = 0;
-    while i < FIELDS {
-        let n = read_number(&s[at..]);
-        if n.refusal != 0 {
-            return no_row(n.refusal);
+    let mut at = 0;
+    for field in ORDER {
+        let found = read_number(&s[at..])?;
+        if !may_be(field, found.value) {
+            return Err(Refusal::RadioValue);
         }
-        let field = field_at(i);
-        if !may_be(field, n.value) {
-            return no_row(refusal::RADIO_VALUE);
-        }
-        row = filled(row, field, n.value);
-        at += n.next;
-        i += 1;
+        row = filled(row, field, found.value);
+        at += found.next;
     }
-    if valid_row(row) {
-        return RowFound {
-            refusal: 0,
-            row,
-            next: at,
-        };
+    if !valid_row(row) {
+        return Err(Refusal::RadioValue);
     }
-    no_row(refusal::RADIO_VALUE)
-}
-
-fn no_rows(refusal: u8) -> Radio
-    ensures { result ≡ refused refusal }
-{
-    let rows = blank_rows();
-    Radio { refusal, rows }
+    Ok(RowFound { row, next: at })
 }
 
 // So many rows and nothing behind them, no runway twice.
-fn read_rows(m: &[u8], count: u8) -> Radio
+fn read_rows(m: &[u8], count: u8) -> Result<Rows, Refusal>
     requires { count ≤ most_rows }
-    ensures { result ≡ answer (read_rows count [] m.now) }
+    ensures { as_radio result ≡ answer (read_rows count [] m.now) }
 {
-    let blank = blank_row();
-    let mut rows = [blank; 8];
-    let mut at: usize = 0;
-    let mut k: u8 = 0;
-    while k < count {
-        let found = read_row(&m[at..]);
-        if found.refusal != 0 {
-            return no_rows(found.refusal);
+    let mut rows = [blank_row(); 8];
+    let mut at = 0;
+    for k in 0..usize::from(count) {
+        let found = read_row(&m[at..])?;
+        if is_among(found.row, &rows[..k]) {
+            return Err(Refusal::RadioValue);
         }
-        let row = found.row;
-        if is_among(row, rows, k) {
-            return no_rows(refusal::RADIO_VALUE);
-        }
-        rows[k as usize] = row;
+        rows[k] = found.row;
         at += found.next;
-        k += 1;
     }
     if at < m.len() {
-        return no_rows(refusal::RADIO_VALUE);
+        return Err(Refusal::RadioValue);
     }
-    let kept = Rows { count, rows };
-    Radio {
-        refusal: 0,
-        rows: kept,
+    Ok(Rows { count, rows })
+}
+
+// The count, and as many rows.
+fn read_record(m: &[u8]) -> Result<Rows, Refusal>
+    ensures { as_radio result ≡ radio_reading m.now }
+{
+    let Found { value: count, next } = read_number(m)?;
+    if !(1..=u32::from(MOST_ROWS)).contains(&count) {
+        return Err(Refusal::RadioValue);
     }
+    read_rows(&m[next..], count as u8)
 }
 
 // The rows of a record, or the refusal first met from the left: 30 cut short, 31 a number not in its own groups, 32 anything else.
 pub fn read_radio(bytes: &[u8]) -> Radio
     ensures { result ≡ radio_reading bytes.now }
 {
-    let n = read_number(bytes);
-    if n.refusal != 0 {
-        return no_rows(n.refusal);
+    match read_record(bytes) {
+        Ok(rows) => Radio { refusal: 0, rows },
+        Err(refusal) => Radio {
+            refusal: refusal.number(),
+            rows: blank_rows(),
+        },
     }
-    let count = n.value;
-    let at = n.next;
-    if count < 1 {
-        return no_rows(refusal::RADIO_VALUE);
-    }
-    if (MOST_ROWS as u32) < count {
-        return no_rows(refusal::RADIO_VALUE);
-    }
-    read_rows(&bytes[at..], count as u8)
 }
 
 // ---- Writing
 
-// The groups of a number: the first `size` of the bytes.
-#[derive(Clone, Copy)]
-pub struct Groups {
-    pub size: usize,
-    pub bytes: [u8; 3],
-}
-
-fn groups_of(x: u32) -> Groups
-    requires { x < 2097152 }
-    ensures { result ≡ groups_of x }
-{
-    if x < MORE {
-        return Groups {
-            size: 1,
-            bytes: [x as u8, 0, 0],
-        };
-    }
-    let low = (x % MORE + MORE) as u8;
-    let y = x / MORE;
-    if y < MORE {
-        return Groups {
-            size: 2,
-            bytes: [low, y as u8, 0],
-        };
-    }
-    Groups {
-        size: 3,
-        bytes: [low, (y % MORE + MORE) as u8, (y / MORE) as u8],
-    }
-}
-
+// Puts a number in its groups.
 fn put_number(out: &mut [u8], at: usize, x: u32) -> usize
     requires { x < 2097152 }
     ensures { Put at (number_bytes x) out.old out.new result }
 {
-    let g = groups_of(x);
-    let bytes = g.bytes;
-    put(out, at, &bytes[..g.size])
+    if x < GROUP {
+        return put(out, at, &[x as u8]);
+    }
+    let low = (x % GROUP) as u8 + MORE;
+    let y = x / GROUP;
+    if y < GROUP {
+        return put(out, at, &[low, y as u8]);
+    }
+    put(out, at, &[low, (y % GROUP) as u8 + MORE, (y / GROUP) as u8])
 }
 
 fn put_row(out: &mut [u8], at: usize, row: Row) -> usize
@@ -456,67 +318,68 @@ fn put_row(out: &mut [u8], at: usize, row: Row) -> usize
     ensures { Put at (row_bytes row) out.old out.new result }
 {
     let mut behind = told_behind(out, at, 0);
-    let mut i: usize = 0;
-    while i < FIELDS {
-        let field = field_at(i);
-        let x = number_of(row, field);
-        behind = put_number(out, behind, x);
-        i += 1;
+    for field in ORDER {
+        behind = put_number(out, behind, number_of(row, field));
     }
     behind
 }
 
-// Puts rows that were judged before.
-fn put_rows(out: &mut [u8], at: usize, r: Rows) -> usize
-    requires { (r.count ≤ most_rows) × (all valid_row (rows_of r) ≡ true) }
-    ensures { Put at (each row_bytes (rows_of r)) out.old out.new result }
-{
-    let rows = r.rows;
-    let mut behind = told_behind(out, at, 0);
-    let mut k: u8 = 0;
-    while k < r.count {
-        let row = rows[k as usize];
-        behind = put_row(out, behind, row);
-        k += 1;
-    }
-    behind
-}
-
-fn put_record(out: &mut [u8], r: Rows) -> usize
-    requires { (r.count ≤ most_rows) × (all valid_row (rows_of r) ≡ true) }
-    ensures { Put 0 (radio_record (rows_of r)) out.old out.new result }
-{
-    let at = put_number(out, 0, r.count as u32);
-    put_rows(out, at, r)
+// Rows that were judged: 1 to 8 valid ones, no runway twice.
+#[derive(Clone, Copy)]
+struct Sendable<'a> {
+    rows: &'a [Row],
+    ghost sendable: { sendable rows.now ≡ true },
 }
 
 // The size that is enough for every record: 1 for the count, 20 for each row.
 pub const LONGEST_RECORD: usize = 161;
 
-// How many bytes the record has.
-fn record_size(r: Rows) -> usize
-    requires { (r.count ≤ most_rows) × (all valid_row (rows_of r) ≡ true) }
-    ensures { result ≡ length (radio_record (rows_of r)) }
-{
-    let mut none = [0; 1];
-    put_record(&mut none, r)
-}
-
-// The record fits into so many bytes: the longest is known, and only a shorter buffer is measured against the record.
-fn has_room(room: usize, r: Rows) -> bool
-    requires { (r.count ≤ most_rows) × (all valid_row (rows_of r) ≡ true) }
-    ensures { result ≡ leb (length (radio_record (rows_of r))) room }
-{
-    if LONGEST_RECORD <= room {
-        return true;
+impl Sendable<'_> {
+    // Puts the record of the rows: their count, and one after the other.
+    fn put(&self, out: &mut [u8]) -> usize
+        ensures { Put 0 (radio_record self.now.rows.now) out.old out.new result }
+    {
+        let mut behind = put_number(out, 0, self.rows.len() as u32);
+        for &row in self.rows {
+            behind = put_row(out, behind, row);
+        }
+        behind
     }
-    record_size(r) <= room
+
+    // How many bytes the record has.
+    fn size(&self) -> usize
+        ensures { result ≡ length (radio_record self.now.rows.now) }
+    {
+        self.put(&mut [0; 1])
+    }
+
+    // The record fits into so many bytes: the longest is known, and only a shorter buffer is measured against the record.
+    fn has_room(&self, room: usize) -> bool
+        ensures { result ≡ leb (length (radio_record self.now.rows.now)) room }
+    {
+        LONGEST_RECORD <= room || self.size() <= room
+    }
 }
 
-fn unwritten(refusal: u8) -> Written
-    ensures { result ≡ unwritten refusal }
+// Judges the rows, puts their record and answers its length.
+fn write_record(r: Rows, out: &mut [u8]) -> Result<usize, Refusal>
+    ensures { WroteRadio r out.old out.new (as_written result) }
 {
-    Written { refusal, length: 0 }
+    let rows = r.shown();
+    if !(1..=MOST_ROWS).contains(&r.count) {
+        return Err(Refusal::RadioValue);
+    }
+    if !all_valid(rows) {
+        return Err(Refusal::InvalidRow);
+    }
+    if !all_new(rows) {
+        return Err(Refusal::RadioValue);
+    }
+    let list = Sendable { rows };
+    if !list.has_room(out.len()) {
+        return Err(Refusal::BufferTooShort);
+    }
+    Ok(list.put(out))
 }
 
 // Writes the record of rows: 32 for no row or over eight, 19 for one that is not valid, 32 for a runway twice, 14 for a buffer that is too short.
@@ -524,22 +387,5 @@ fn unwritten(refusal: u8) -> Written
 pub fn write_radio(r: Rows, out: &mut [u8]) -> Written
     ensures { WroteRadio r out.old out.new result }
 {
-    if r.count < 1 {
-        return unwritten(refusal::RADIO_VALUE);
-    }
-    if MOST_ROWS < r.count {
-        return unwritten(refusal::RADIO_VALUE);
-    }
-    let rows = r.rows;
-    if !all_valid(rows, r.count) {
-        return unwritten(refusal::INVALID_ROW);
-    }
-    if !all_new(rows, r.count) {
-        return unwritten(refusal::RADIO_VALUE);
-    }
-    if has_room(out.len(), r) {
-        let length = put_record(out, r);
-        return Written { refusal: 0, length };
-    }
-    unwritten(refusal::BUFFER_TOO_SHORT)
+    Written::from(write_record(r, out))
 }

@@ -1,7 +1,10 @@
 -- The loop over a row's parts, and its two ways out.
-use Rattle.std.specs.Prelude.{◌≡◌, ℕ, ◌+◌, ◌-◌, ◌≤◌, List, [], ◌∷◌, Ok, Err, length, drop}
+use Rattle.std.specs.Prelude.{◌≡◌, ℕ, ◌+◌, ◌≤◌, List, [], ◌∷◌, Ok, Err, length, drop}
 use Rattle.std.proofs.Common.{refl, ap, arith, length-drop, drop-drop}
+use Rattle.text.specs.Out.{taken}
 use Rattle.text.specs.Refusals.{number}
+use Rattle.text.specs.Code.Faults.{Refused}
+use Rattle.text.specs.Laws.Left.{drop-place}
 use Rattle.text.specs.declared.refusal.Fault.{Fault}
 use Rattle.row.specs.Row.{blank_row}
 use Rattle.row.specs.declared.Row.{Row}
@@ -12,7 +15,7 @@ use Rattle.rowtext.specs.declared.Part.{Part}
 
 -- `gs` are left, to be read from the place `at` of the line into the row r
 module _ (l : List ℕ) (at : ℕ) (gs : List Part) (r : Row) (inv : fill_from gs r (drop at l) ≡ fill_from parts blank_row l) where
-  pub way-end : length gs ≡ 0 → row_answer l (find_row l) ≡ record { refusal = 0; place = 0; row = r }
+  pub way-end : length gs ≡ 0 → find_row l ≡ taken r
   unfolding fill_from
   way-end e = let z : gs ≡ [] = empty gs e in rw (filling-is l, ← inv, z)
     where
@@ -29,8 +32,13 @@ module _ (l : List ℕ) (at : ℕ) (gs : List Part) (r : Row) (inv : fill_from g
     step-on {n = n} f = rw (e, ← p, f.says, p, drop-drop n at l) at inv
 
     pub way-off : {q : Row} {f : Fault} → at ≤ length l → Filled (fill_group g) part r q (Err f)
-        → row_answer l (find_row l) ≡ record { refusal = number f.refusal; place = at + f.place; row = blank_row }
+        → Refused l (find_row l) (record { refusal = f.refusal; place = at + f.place })
     unfolding fill_from
-    way-off {f = f} h k =
-        let z : length l - length (drop (at + f.place) l) ≡ at + f.place = omega (arith, length-drop (at + f.place) l, within h f.place k.within) in
-        rw (filling-is l, ← inv, e, ← p, k.says, p, drop-drop f.place at l, z)
+    way-off {f = f} h k = record {
+      within = within h f.place k.within;
+      says = rw (filling-is l, ← inv, e, ← p, k.says, p, drop-drop f.place at l);
+    }
+
+-- the answer to a fault
+pub answer-off : {l : List ℕ} {f : Fault} → Refused l (find_row l) f → row_answer l (find_row l) ≡ record { refusal = number f.refusal; place = f.place; row = blank_row }
+answer-off {l} {f} h = rw (h.says, drop-place f.place l h.within)

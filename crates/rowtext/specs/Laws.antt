@@ -9,3 +9,4 @@ pub mod Fault
 pub mod Sizes
 pub mod Short
 pub mod Filling
+pub mod Found

@@ -2,7 +2,7 @@
 
 #![tactic(auto)]
 
-ghost use Rattle.std.specs.Prelude.{◌≡◌, ◌≤◌, leb, length, drop, MatchOption};
+ghost use Rattle.std.specs.Prelude.{◌≡◌, ◌≤◌, length, drop, MatchOption};
 ghost use Rattle.text.specs.Choice.{all};
 ghost use Rattle.text.specs.Piece.{canonical};
 ghost use Rattle.text.specs.Put.{Put};
@@ -15,9 +15,9 @@ ghost use Rattle.thirds.specs.Laws.Groups.{Shown};
 ghost use Rattle.rowtext.specs.Text.{field, group_of, middle_pieces, width_pieces, row_pieces};
 ghost use Rattle.rowtext.specs.Reading.{parted, each, time_group, runway_group, find_row, row_answer};
 ghost use Rattle.rowtext.specs.Writing.{row_text, WroteRow};
-ghost use Rattle.rowtext.specs.Code.Filling.{with_number, with_group, with_rest, may_stand, alone_group, full_rest, fill_group, Filled, FaultAt, Judged, HeldWidth};
+ghost use Rattle.rowtext.specs.Code.Filling.{RowFound, with_number, with_group, with_rest, may_stand, alone_group, full_rest, fill_group, Filled, FaultAt, Judged, HeldWidth};
 
-use fill::{put, put_digits};
+use fill::{has_room, put, put_digits};
 use row::{HIGHEST_RUNWAY, Row, blank_row, is_short, valid_row};
 use runway::{RunwayFound, put_runway, read_runway, real_time, valid_runway};
 use scan::{digits, spaces, word};
@@ -321,41 +321,49 @@ fn part_into(part: Part, row: &mut Row, s: &[u8]) -> Result<usize, Fault>
     }
 }
 
-#[repr(C)]
-#[derive(Clone, Copy)]
-pub struct RowRead {
-    // 0 for a row that is taken, else 5 or 24 to 28
-    pub refusal: u8,
-    // the first byte of the group at fault, 0 for a row that is taken
-    pub place: usize,
-    pub row: Row,
-}
-
 // The row that a whole line is: part by part, each in what is left of the line, and the first that is at fault refuses it.
-pub fn read_row(line: &[u8]) -> RowRead
-    ensures { result ≡ row_answer line.now (find_row line.now) }
+pub fn find_row(line: &[u8]) -> Result<Row, Fault>
+    ensures { RowFound line.now result }
 {
     let mut row = blank_row();
     let mut at = 0;
     let mut parts = PARTS.iter();
     'parts: loop {
         let Some(&part) = parts.next() else {
-            break 'parts RowRead {
-                refusal: 0,
-                place: 0,
-                row,
-            };
+            break 'parts Ok(row);
         };
         match part_into(part, &mut row, &line[at..]) {
             Ok(next) => at += next,
-            Err(fault) => {
-                break 'parts RowRead {
-                    refusal: fault.refusal.number(),
-                    place: at + fault.place,
-                    row: blank_row(),
-                };
-            }
+            Err(fault) => break 'parts Err(fault.refusal.at(at + fault.place)),
         }
+    }
+}
+
+#[repr(C)]
+#[derive(Clone, Copy)]
+pub struct RowRead {
+    // 0 for a row that is taken, else 5 or 24 to 28; stays: C interface
+    pub refusal: u8,
+    // the first byte of the group at fault, 0 for a row that is taken
+    pub place: usize,
+    pub row: Row,
+}
+
+// The same for C: a line that is refused has a blank row.
+pub fn read_row(line: &[u8]) -> RowRead
+    ensures { result ≡ row_answer line.now (find_row line.now) }
+{
+    match find_row(line) {
+        Ok(row) => RowRead {
+            refusal: 0,
+            place: 0,
+            row,
+        },
+        Err(fault) => RowRead {
+            refusal: fault.refusal.number(),
+            place: fault.place,
+            row: blank_row(),
+        },
     }
 }
 
@@ -421,26 +429,12 @@ pub fn put_any_row(rest: &mut [u8], row: Row) -> usize
 // No row has a longer text.
 pub const LONGEST_ROW: usize = 147;
 
-// How many bytes the row's text has.
-fn row_size(row: Row) -> usize
-    ensures { result ≡ length (canonical (row_pieces row)) }
-{
-    put_any_row(&mut [0; 1], row)
-}
-
-// The row's text fits into so many bytes: the longest is known, and only a shorter rest is measured against the text.
-fn has_room(room: usize, row: Row) -> bool
-    ensures { result ≡ leb (length (canonical (row_pieces row))) room }
-{
-    LONGEST_ROW <= room || row_size(row) <= room
-}
-
 // Writes the row into the rest of a buffer and answers how many bytes it filled.
 // A row that is not valid or does not fit leaves every byte as it was: 0.
 pub fn write_row(rest: &mut [u8], row: Row) -> usize
     ensures { WroteRow (row_text row) rest.old rest.new result }
 {
-    if !valid_row(row) || !has_room(rest.len(), row) {
+    if !valid_row(row) || !has_room(rest.len(), LONGEST_ROW, |out| put_any_row(out, row)) {
         return 0;
     }
     put_any_row(rest, row)

@@ -11,6 +11,7 @@ ghost use Rattle.runway.specs.Code.Held.{HeldSide, HeldRunway};
 
 use fill::{put, put_digits};
 use scan::digits;
+use text::place;
 
 // A runway that stands at a place of a text, and the place behind it.
 #[derive(Clone, Copy)]
@@ -21,64 +22,48 @@ pub struct RunwayFound {
     pub next: usize,
 }
 
+#[tactic(auto, unfolding(crate::specs::Time::is_short_month))]
 fn is_short_month(month: u32) -> bool
     ensures { result ≡ is_short_month month }
 {
-    if 4 == month {
-        return true;
-    }
-    if 6 == month {
-        return true;
-    }
-    if 9 == month {
-        return true;
-    }
-    11 == month
+    matches!(month, 4 | 6 | 9 | 11)
 }
 
 // The days of a month, 29 February included.
+#[tactic(auto, unfolding(crate::specs::Time::days_of))]
 pub fn days_of(month: u32) -> u32
     ensures { result ≡ days_of month }
 {
     if month == 2 {
-        return 29;
+        29
+    } else if is_short_month(month) {
+        30
+    } else {
+        31
     }
-    if is_short_month(month) { 30 } else { 31 }
 }
 
+#[tactic(auto, using(text::specs::Laws::Tests::and_is), unfolding(crate::specs::Time::real_day))]
 fn real_day(month: u32, day: u32) -> bool
     ensures { result ≡ real_day month day }
 {
-    if month < 1 {
-        return false;
-    }
-    if 12 < month {
-        return false;
-    }
-    if day < 1 {
-        return false;
-    }
-    day <= days_of(month)
+    1 <= month && month <= 12 && 1 <= day && day <= days_of(month)
 }
 
 // Hours 00 to 23 and minutes 00 to 59.
+#[tactic(auto, using(text::specs::Laws::Tests::and_is), unfolding(crate::specs::Time::real_clock))]
 pub fn real_clock(hhmm: u32) -> bool
     ensures { result ≡ real_clock hhmm }
 {
-    if hhmm / 100 < 24 {
-        return hhmm % 100 < 60;
-    }
-    false
+    hhmm / 100 < 24 && hhmm % 100 < 60
 }
 
 // A time MMDDhhmm, as a number.
+#[tactic(auto, using(text::specs::Laws::Tests::and_is), unfolding(crate::specs::Time::real_time))]
 pub fn real_time(t: u32) -> bool
     ensures { result ≡ real_time t }
 {
-    if real_day(t / 1000000, t / 10000 % 100) {
-        return real_clock(t % 10000);
-    }
-    false
+    real_day(t / 1000000, t / 10000 % 100) && real_clock(t % 10000)
 }
 
 // A season goes from 1 July to 30 June, so that a board and a notice may go on over New Year.
@@ -87,6 +72,7 @@ const SEASON_START: u32 = 7010000;
 const TWELVE_MONTHS: u32 = 12000000;
 
 // A time as it stands in its season: January to June follow December, as if they were months 13 to 18.
+#[tactic(auto, using(text::specs::Laws::Tests::tests))]
 fn in_season(t: u32) -> u32
     ensures { result ≡ in_season t }
 {
@@ -98,6 +84,7 @@ fn in_season(t: u32) -> u32
 }
 
 // Whether `t` was observed later in the season than `s`.
+#[tactic(auto, unfolding(crate::specs::Time::later))]
 pub fn is_later(t: u32, s: u32) -> bool
     ensures { result ≡ later t s }
 {
@@ -105,54 +92,23 @@ pub fn is_later(t: u32, s: u32) -> bool
 }
 
 // Numbers 01 to the highest; none, L, C or R.
+#[tactic(auto, using(text::specs::Laws::Tests::and_is), unfolding(crate::specs::Runway::valid_runway))]
 pub fn valid_runway(highest: u8, number: u8, side: u8) -> bool
     ensures { result ≡ valid_runway highest number side }
 {
-    if number < 1 {
-        return false;
-    }
-    if highest < number {
-        return false;
-    }
-    side <= 3
+    1 <= number && number <= highest && side <= 3
 }
 
-// L, C, R or nothing at `i`, and the place behind it.
-#[derive(Clone, Copy)]
-pub struct Side {
-    pub side: u8,
-    pub next: usize,
-}
-
-fn side_at(s: &[u8], i: usize) -> Side
+// The side at `i`, perhaps none, and the place behind it.
+fn side_at(s: &[u8], i: usize) -> (u8, usize)
     ensures { HeldSide s.now (read_side (drop i s.now)) result }
 {
-    if s.len() <= i {
-        return Side {
-            side: 0,
-            next: s.len(),
-        };
+    match s.get(i) {
+        Some(b'L') => (1, i + 1),
+        Some(b'C') => (2, i + 1),
+        Some(b'R') => (3, i + 1),
+        _ => (0, place(s, i)),
     }
-    let b = s[i];
-    if b == b'L' {
-        return Side {
-            side: 1,
-            next: i + 1,
-        };
-    }
-    if b == b'C' {
-        return Side {
-            side: 2,
-            next: i + 1,
-        };
-    }
-    if b == b'R' {
-        return Side {
-            side: 3,
-            next: i + 1,
-        };
-    }
-    Side { side: 0, next: i }
 }
 
 // The runway at `i`: any two digits, and its side.
@@ -160,17 +116,19 @@ pub fn read_runway(s: &[u8], i: usize) -> Option<RunwayFound>
     ensures { HeldRunway s.now (read_runway (drop i s.now)) result }
 {
     let n = digits(s, i, 2)?;
-    let d = side_at(s, n.next);
+    let (side, next) = side_at(s, n.next);
     Some(RunwayFound {
         number: n.value as u8,
-        side: d.side,
-        next: d.next,
+        side,
+        next,
     })
 }
 
+#[tactic(auto, unfolding(text::specs::Piece::spell))]
 fn put_side(out: &mut [u8], at: usize, side: u8) -> usize
     ensures { Put at (canonical (spell (side_name side))) out.old out.new result }
 {
+    // stays: C interface: the side is a number
     match side {
         1 => put(out, at, b"L"),
         2 => put(out, at, b"C"),
@@ -183,6 +141,6 @@ fn put_side(out: &mut [u8], at: usize, side: u8) -> usize
 pub fn put_runway(out: &mut [u8], at: usize, number: u8, side: u8) -> usize
     ensures { Put at (canonical (runway_pieces number side)) out.old out.new result }
 {
-    let at = put_digits(out, at, 2, number as u32);
+    let at = put_digits(out, at, 2, u32::from(number));
     put_side(out, at, side)
 }

@@ -1,7 +1,8 @@
 -- Tables that the checker evaluates: each number, word and bound of the definitions with its neighbours.
-use Rattle.std.specs.Prelude.{ℕ, zero, suc, ◌≡◌, refl, List, [], ◌∷◌, map, Some, None, cond, Bool, true, false, eqb, ℤ, pos, negsuc}
+use Rattle.std.specs.Prelude.{ℕ, zero, suc, ◌≡◌, refl, List, [], ◌∷◌, map, Some, None, Ok, Err, cond, Bool, true, false, eqb, ℤ, pos, negsuc}
 use Rattle.text.specs.Choice
 use Rattle.text.specs.Piece.{bytes}
+use Rattle.text.specs.declared.refusal.Refusal.TheVariants.{OutOfRange, Contradiction}
 use Rattle.surface.specs.declared.Observation.{Observation}
 use Rattle.surface.specs.declared.Assessment.{Assessment}
 use Rattle.surface.specs.Descriptions
@@ -9,11 +10,12 @@ use Rattle.surface.specs.Descriptions.{not_reported, compacted_snow, dry_snow, d
 use Rattle.surface.specs.Descriptions.{water_on_compacted_snow, wet, wet_ice, wet_snow, wet_snow_on_compacted_snow, wet_snow_on_ice, dry, description_name}
 use Rattle.surface.specs.Descriptions.{contaminant, line_of}
 use Rattle.surface.specs.Third
-use Rattle.surface.specs.Third.{third, blank_third, is_blank_third, valid_third}
+use Rattle.surface.specs.Third.{third, blank_third, is_blank_third, least_depth, valid_third}
 use Rattle.surface.specs.Table1
 use Rattle.surface.specs.Table1.{table1, code, code_for, minus, agrees}
 use Rattle.surface.specs.Assess
 use Rattle.surface.specs.Assess.{refused_assessing, assessed_as, assessing}
+use Rattle.surface.specs.Code.{observed, assessment}
 
 -- the numbers below n, and those of them that pass a test
 abbrev up_to : ℕ → List ℕ → List ℕ
@@ -103,6 +105,11 @@ validity =
 lines : map line_of (standing_water ∷ slush ∷ wet_snow ∷ dry_snow ∷ frost ∷ [])
     ≡ Some (contaminant standing_water 4 3) ∷ Some (contaminant slush 3 3) ∷ Some (contaminant wet_snow 3 5) ∷ Some (contaminant dry_snow 3 20) ∷ None ∷ []
 lines = refl
+
+-- the least depths that are reported, and 0 where there is no line
+least_depths : map least_depth (standing_water ∷ slush ∷ wet_snow ∷ dry_snow ∷ frost ∷ []) ≡ 4 ∷ 3 ∷ 3 ∷ 3 ∷ 0 ∷ []
+unfolding Third.least_depth
+least_depths = refl
 
 -- the codes of the entries of Table 1, in its order
 order : map code table1 ≡ 6 ∷ 5 ∷ 5 ∷ 5 ∷ 5 ∷ 5 ∷ 4 ∷ 3 ∷ 3 ∷ 3 ∷ 3 ∷ 3 ∷ 3 ∷ 2 ∷ 2 ∷ 1 ∷ 0 ∷ 0 ∷ 0 ∷ []
@@ -234,3 +241,13 @@ assessments =
       dry-snow = refl;
       wet-snow = refl;
     }
+
+-- what the code has of its own: an observation in range, and a third or a refusal
+pub record Coded : Type 0 where
+  seen : observed (record { kind = ice; cover = 1; depth = 2; temperature = minus 3; slippery = true })
+      ≡ record { kind = ice; cover = 1; depth = 2; temperature = minus 3; slippery = true }
+  answers : map assessment (Ok (third 5 25 0 frost) ∷ Err OutOfRange ∷ Err Contradiction ∷ [])
+      ≡ assessed_as (third 5 25 0 frost) ∷ refused_assessing 15 ∷ refused_assessing 16 ∷ []
+
+pub coded : Coded
+coded = record { seen = refl; answers = refl }

@@ -1,4 +1,5 @@
 // The descriptions by number: document 01's fifteen in its order, and NR.
+// stays: C interface: a third holds its description as a number.
 pub const NR: u8 = 0;
 
 pub const COMPACTED_SNOW: u8 = 1;

@@ -50,7 +50,7 @@ pub struct Observation {
 #[repr(C)]
 #[derive(Clone, Copy)]
 pub struct Assessment {
-    // 0 for an observation that is taken
+    // 0 for an observation that is taken; stays: C interface
     pub refusal: u8,
     pub third: Third,
 }
@@ -103,22 +103,22 @@ const TABLE_3: [Contaminant; 4] = [
 ];
 
 // The line of Table 3 that a kind has.
-pub fn line_of(kind: u8) -> Option<Contaminant>
+pub fn line_of(kind: u32) -> Option<Contaminant>
     ensures { result ≡ line_of kind }
 {
-    TABLE_3.iter().find(|line| line.0 == kind).copied()
+    TABLE_3.iter().find(|line| line.0 as u32 == kind).copied()
 }
 
 fn is_deep(kind: u8) -> bool
     ensures { result ≡ is_deep kind }
 {
-    line_of(kind).is_some()
+    line_of(kind as u32).is_some()
 }
 
 fn is_reported(description: u8, depth: u16) -> bool
     ensures { result ≡ is_reported description depth }
 {
-    line_of(description).is_some_and(|Contaminant(_, least, _)| least <= depth)
+    line_of(description as u32).is_some_and(|Contaminant(_, least, _)| least <= depth)
 }
 
 pub const GREATEST_DEPTH: u32 = 999;

@@ -9,8 +9,9 @@ mod observations;
 mod output;
 mod rows;
 
-ghost use Rattle.std.specs.Prelude.{◌≤◌, length, IfOk};
+ghost use Rattle.std.specs.Prelude.{◌≤◌, length, IfSome};
 
+use listing::input::read_full;
 use messages::print_message;
 use observations::print_observations;
 use rows::print_row;
@@ -32,38 +33,28 @@ struct Part {
     end: usize,
 }
 
-// It has no letter.
-const NO_PART: Part = Part {
-    letter: 0,
-    start: 0,
-    end: 0,
-};
-
-// The part whose letter stands at `at`.
-fn part_at(input: &[u8], at: usize) -> Part
-    ensures { (result.start ≤ result.end) × (result.end ≤ length input.now) }
+// The part whose letter, which is not 0, stands at `at`.
+fn part_at(input: &[u8], at: usize) -> Option<Part>
+    ensures { IfSome result (λ p. (p.start ≤ p.end) × (p.end ≤ length input.now)) }
 {
-    if input.len() <= at {
-        return NO_PART;
+    let letter = *input.get(at)?;
+    if letter == 0 {
+        return None;
     }
-    let size = digits(input, at + 1, LENGTH_DIGITS);
-    let next = size.next;
-    if !size.fits {
-        return NO_PART;
+    let size = digits(input, at + 1, LENGTH_DIGITS)?;
+    if input.len() <= size.next {
+        return None;
     }
-    if input.len() <= next {
-        return NO_PART;
-    }
-    let start = next + 1;
+    let start = size.next + 1;
     let n = size.value as usize;
     if input.len() - start < n {
-        return NO_PART;
+        return None;
     }
-    Part {
-        letter: input[at],
+    Some(Part {
+        letter,
         start,
         end: start + n,
-    }
+    })
 }
 
 fn print_part(
@@ -73,59 +64,33 @@ fn print_part(
     part: &[u8],
     before: &[u8],
 ) -> io::Result<()> {
-    if letter == b'M' {
-        print_message(rt, number, part, before)?;
+    match letter {
+        b'M' => print_message(rt, number, part, before),
+        b'R' => print_row(rt, part),
+        _ => Ok(()),
     }
-    if letter == b'R' {
-        print_row(rt, part)?;
-    }
-    Ok(())
 }
 
 // Every part of the input; the first is compared with itself.
 fn print_parts(rt: &impl Print, input: &[u8]) -> io::Result<()> {
-    let first = part_at(input, 0);
-    let mut start_before = first.start;
-    let mut end_before = first.end;
-    let mut at: usize = 0;
+    let Some(first) = part_at(input, 0) else {
+        return Ok(());
+    };
+    let mut before = &input[first.start..first.end];
+    let mut at = 0;
     for number in 1..=MOST {
-        let part = part_at(input, at);
-        let letter = part.letter;
-        if letter == 0 {
+        let Some(Part { letter, start, end }) = part_at(input, at) else {
             return Ok(());
-        }
-        let start = part.start;
-        let end = part.end;
-        print_part(
-            rt,
-            letter,
-            number,
-            &input[start..end],
-            &input[start_before..end_before],
-        )?;
+        };
+        let part = &input[start..end];
+        print_part(rt, letter, number, part, before)?;
         if input.len() <= end {
             return Ok(());
         }
-        start_before = start;
-        end_before = end;
+        before = part;
         at = end + 1;
     }
     Ok(())
-}
-
-// Reads until `held` is full or the input ends, and answers how many bytes it put.
-fn read_full(input: &mut impl Read, held: &mut [u8]) -> io::Result<usize>
-    ensures { IfOk result (λ n. n ≤ length held.new) }
-{
-    let mut n: usize = 0;
-    while n < held.len() {
-        let got = input.read(&mut held[n..])?;
-        if got == 0 {
-            break;
-        }
-        n += got;
-    }
-    Ok(n)
 }
 
 fn run(rt: &impl Print, input: &mut impl Read, held: &mut [u8]) -> io::Result<()> {

@@ -16,11 +16,7 @@ fn print_byte(rt: &impl Print, n: u8) -> io::Result<()> {
 }
 
 fn print_bool(rt: &impl Print, b: bool) -> io::Result<()> {
-    if b {
-        print_number(rt, 1)
-    } else {
-        print_number(rt, 0)
-    }
+    print_number(rt, u32::from(b))
 }
 
 fn print_third(rt: &impl Print, t: Third) -> io::Result<()> {

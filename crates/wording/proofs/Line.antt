@@ -1,14 +1,11 @@
 -- The text of the awareness line, one item more at a time.
-use Prim.Native.Nat.{ℕ, zero, suc, ◌+◌, ◌<◌, ◌≤◌}
-use mathlib.Core.Path.{◌≡◌, sym, ◌∙◌, ap}
+use Prim.Native.Nat.{ℕ, ◌+◌, ◌<◌}
+use mathlib.Core.Path.{◌≡◌, refl, sym, ◌∙◌, ap}
 use mathlib.Core.List.{List, [], ◌∷◌, ◌++◌, append_assoc, append-nil}
 use native.Mathlib.Numerals.{add-one}
 use native.Mathlib.Omega.{arith}
-use lib.Dec.{eqb}
 use lib.ListN.{length, take, get_or}
-use lib.Seq.{take_all, take-suc}
-use borrow.Author.Tests.{ne_eqb}
-use mathlib.Core.Bool.{cond}
+use lib.Seq.{take-suc}
 use Rattle.text.specs.Piece.{Piece, loose, canonical, lay_all, bytes}
 use Rattle.text.specs.Laws.Put.{canonical-append}
 use Rattle.items.specs.declared.Item.{Item}
@@ -33,20 +30,21 @@ line-more j is i =
     ∙ ap canonical (sym (append_assoc (item_pieces j) (lay_all spaced is) (spaced i)))
     ∙ canonical-append (item_pieces j ++ lay_all spaced is) (spaced i)
 
--- the item at place k
-pub line-next : (d : Item) (items : List Item) (k : ℕ) → k < length items
-    → awareness_text (take (k + 1) items) ≡ awareness_text (take k items) ++ (cond (eqb k 0) [] (bytes " ") ++ canonical (item_pieces (get_or items k d)))
+-- none, and the first one
+pub no-line : (is : List Item) → length is ≡ 0 → awareness_text is ≡ []
 unfolding awareness_pieces
-line-next d [] k h = absurd (omega arith)
-line-next d (i ∷ is) zero h = ap canonical (append-nil (item_pieces i))
-line-next d (i ∷ is) (suc k) h =
-    let e : take (suc k) is ≡ take k is ++ (get_or is k d ∷ []) = take-suc is k d (omega arith) in
-    rw (add-one, ne_eqb (suc k) 0 (λ z. absurd (omega arith))) (ap (λ (l : List Item). awareness_text (i ∷ l)) e ∙ line-more i (take k is) (get_or is k d))
+no-line [] h = refl
+no-line (i ∷ is) h = absurd (omega arith)
 
--- all of them
-module _ (items : List Item) (n k : ℕ) (h : k ≤ n) where
-  pub line-used : n ≤ k → awareness_text (take k items) ≡ awareness_text (take n items)
-  line-used u = let z : k ≡ n = omega arith in rw z
+pub line-first : (j : Item) (others : List Item) → awareness_text (take 1 (j ∷ others)) ≡ canonical (item_pieces j)
+unfolding awareness_pieces
+line-first j others = ap canonical (append-nil (item_pieces j))
 
-  pub line-left : length items ≤ k → awareness_text (take k items) ≡ awareness_text (take n items)
-  line-left u = ap awareness_text (take_all k items u ∙ sym (take_all n items (omega arith)))
+-- what stands past the items of a slice
+abbrev outside : Item
+outside = record { letter = 0; number = 0; side = 0; amount = 0; edge = 0; count = 0; taxiways = []; name = [] }
+
+-- the item behind the first and k others
+pub line-next : (j : Item) (others : List Item) (k : ℕ) → k < length others
+    → awareness_text (take (k + 1 + 1) (j ∷ others)) ≡ awareness_text (take (k + 1) (j ∷ others)) ++ (bytes " " ++ canonical (item_pieces (get_or others k outside)))
+line-next j others k h = rw (add-one, add-one, take-suc others k outside h) (line-more j (take k others) (get_or others k outside))

@@ -1,16 +1,14 @@
 -- The texts of the items, piece by piece.
-use Prim.Native.Nat.{ℕ, zero, suc, ◌-◌, ◌<◌, ◌≤◌}
+use Prim.Native.Nat.{ℕ, zero, suc, ◌+◌, ◌-◌, ◌<◌, ◌≤◌}
 use mathlib.Core.Path.{◌≡◌, refl, sym, ◌∙◌, ap}
 use mathlib.Core.List.{List, [], ◌∷◌, ◌++◌, append_assoc}
 use mathlib.Core.Bool.{cond, Bool, true, false}
 use native.Mathlib.Omega.{arith}
 use lib.Dec.{eqb}
-use lib.ListN.{length, take, drop, drop_of_length-le}
-use lib.Seq.{take_all, drop-length}
+use lib.ListN.{take, drop}
 use borrow.Author.Tests.{eqb-true}
 use Rattle.text.specs.Arrays.{slots}
 use Rattle.text.specs.Piece.{Piece, byte, gap, canonical, canonical1, spell, verbatim, words, bytes}
-use Rattle.text.specs.Laws.Held.{part-all}
 use Rattle.text.specs.Laws.Put.{canonical-append}
 use Rattle.runway.specs.Runway.{runway_pieces}
 use Rattle.items.specs.declared.Item.{Item}
@@ -18,7 +16,7 @@ use Rattle.text.specs.Numbers.{number, digits}
 use Rattle.items.specs.Item.{name_at_front}
 use Rattle.items.specs.ItemText.{edge_name, of_runway, of_taxiways, length_text, bank_text, item_text, item_pieces}
 use Rattle.items.specs.Laws.Language.{verbatim-bytes}
-use Rattle.wording.specs.Code.Slots.{FrontSlot, taxiway_names}
+use Rattle.wording.specs.Code.Slots.{taxiway_names}
 
 -- a fixed text is written as it stands
 pub spell-bytes : (l : List ℕ) → canonical (spell l) ≡ l
@@ -59,29 +57,19 @@ bank-bytes i =
     ∙ said-on i (bytes " SNOWBANK") (bytes " ") _
     ∙ rw (canonical-append (spell (edge_name i.edge)) (digits 2 i.amount ++ words " FM CL"), canonical-append (digits 2 i.amount) (words " FM CL"), spell-bytes (bytes " FM CL"))
 
--- a slot with less than three bytes
-pub short-slot : (f : List ℕ) → length f < 3 → FrontSlot f (length f)
-short-slot f h =
-    let k : length f ≤ 3 = omega arith in
-    record {
-      within = omega arith;
-      slot = take_all (length f) f (omega arith) ∙ sym (take_all 3 f k);
-      rest = drop-length f ∙ sym (drop_of_length-le f k);
-    }
+-- the names in the slots that are left, of which k are passed: the first of them, and the others
+module _ (n k : ℕ) (f : List ℕ) where
+  pub names-step : k < n → canonical (taxiway_names (n - k) f) ≡ bytes " " ++ (name_at_front (take 3 f) ++ canonical (taxiway_names (n - (k + 1)) (drop 3 f)))
+  unfolding slots
+  names-step h =
+      let z : n - k ≡ suc (n - (k + 1)) = omega arith in
+      rw z (ap (λ k. 32 ∷ k) (canonical-append (verbatim (name_at_front (take 3 f))) _ ∙ rw (verbatim-bytes (name_at_front (take 3 f)))))
 
-one_more : (n : ℕ) (t : List ℕ) {e : ℕ} → FrontSlot t e → canonical (taxiway_names (suc n) t) ≡ bytes " " ++ (name_at_front (take e t) ++ canonical (taxiway_names n (drop e t)))
-unfolding slots
-one_more n t s = rw (s.slot, s.rest) (ap (λ k. 32 ∷ k) (canonical-append (verbatim (name_at_front (take 3 t))) _ ∙ rw (verbatim-bytes (name_at_front (take 3 t)))))
+  pub names-end : n ≤ k → canonical (taxiway_names (n - k) f) ≡ []
+  unfolding slots
+  names-end h = let z : n - k ≡ 0 = omega arith in rw z
 
--- the taxiways of an item, the first one and the others
-pub first-taxiway : (n : ℕ) (t : List ℕ) {e : ℕ} → FrontSlot t e → (n ≡ 0 → ⊥)
-    → canonical (taxiway_names n t) ≡ bytes " " ++ (name_at_front (take e t) ++ canonical (taxiway_names (n - 1) (take (length t - e) (drop e t))))
-first-taxiway n t {e} s h = rw (part-all e t) (go n h)
-  where
-    go : (n : ℕ) → (n ≡ 0 → ⊥) → canonical (taxiway_names n t) ≡ bytes " " ++ (name_at_front (take e t) ++ canonical (taxiway_names (n - 1) (drop e t)))
-    go zero h = absurd (h refl)
-    go (suc n) h = let z : suc n - 1 ≡ n = omega arith in rw z (one_more n t s)
-
+-- the taxiways of an item
 pub of-taxiways : (i : Item) (said : List ℕ) → canonical (of_taxiways i said) ≡ bytes "TWY" ++ (canonical (taxiway_names i.count i.taxiways) ++ said)
 of-taxiways i said = between (bytes "TWY") (taxiway_names i.count i.taxiways) said
 

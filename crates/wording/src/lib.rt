@@ -9,12 +9,13 @@ ghost use Rattle.text.specs.Put.{Put};
 ghost use Rattle.items.specs.Awareness.{awareness_pieces};
 ghost use Rattle.items.specs.Item.{name_at_front};
 ghost use Rattle.items.specs.ItemText.{edge_name, of_runway, length_text, bank_text, of_taxiways, poor_taxiways, poor_apron, item_text, item_pieces};
-ghost use Rattle.wording.specs.Code.Slots.{FrontSlot, taxiway_names};
+ghost use Rattle.wording.specs.Code.Slots.{taxiway_names};
 
 use fill::{put, put_digits, told_behind};
-use items::{Item, MOST_ITEMS, TAXIWAY_SIZE, words};
+use items::{Item, first_slot, is_named, words};
 use runway::put_runway;
-use scan::{CAPITALS_AND_DIGITS, counted, run};
+use scan::run;
+use text::Class;
 
 // ---- Writing an item
 
@@ -22,6 +23,7 @@ use scan::{CAPITALS_AND_DIGITS, counted, run};
 fn put_edge(out: &mut [u8], at: usize, edge: u8) -> usize
     ensures { Put at (canonical (spell (edge_name edge))) out.old out.new result }
 {
+    // stays: C interface: the edge is a number
     match edge {
         1 => put(out, at, &words::L),
         2 => put(out, at, &words::R),
@@ -34,10 +36,8 @@ fn put_edge(out: &mut [u8], at: usize, edge: u8) -> usize
 fn put_number(out: &mut [u8], at: usize, x: u16) -> usize
     ensures { Put at (canonical (number 3 x)) out.old out.new result }
 {
-    if 1000 <= x {
-        return put_digits(out, at, 4, x as u32);
-    }
-    put_digits(out, at, 3, x as u32)
+    let digits = if 1000 <= x { 4 } else { 3 };
+    put_digits(out, at, digits, u32::from(x))
 }
 
 // The runway of an item, and behind a space what is said of it.
@@ -67,25 +67,15 @@ fn put_bank(out: &mut [u8], at: usize, i: Item) -> usize
     let at = put_of_runway(out, at, i, &words::SNOWBANK);
     let at = put(out, at, b" ");
     let at = put_edge(out, at, i.edge);
-    let at = put_digits(out, at, 2, i.amount as u32);
+    let at = put_digits(out, at, 2, u32::from(i.amount));
     put(out, at, &words::FM_CL)
-}
-
-// How many bytes the slot at the front of `t` has: three, or all that are left.
-fn slot_end(t: &[u8]) -> usize
-    ensures { FrontSlot t.now result }
-{
-    if t.len() < TAXIWAY_SIZE {
-        return t.len();
-    }
-    TAXIWAY_SIZE
 }
 
 // The name at the front of `f`.
 fn put_name(out: &mut [u8], at: usize, f: &[u8]) -> usize
     ensures { Put at (name_at_front f.now) out.old out.new result }
 {
-    let n = run(f, 0, CAPITALS_AND_DIGITS);
+    let n = run(f, 0, Class::Names);
     put(out, at, &f[..n])
 }
 
@@ -93,22 +83,23 @@ fn put_name(out: &mut [u8], at: usize, f: &[u8]) -> usize
 fn put_taxiways(out: &mut [u8], at: usize, t: &[u8], n: u8) -> usize
     ensures { Put at (canonical (taxiway_names n t.now)) out.old out.new result }
 {
-    if n == 0 {
-        return put(out, at, b"");
+    let mut behind = told_behind(out, at, 0);
+    let mut rest = t;
+    for _ in 0..n {
+        let (slot, others) = first_slot(rest);
+        let name = put(out, behind, b" ");
+        behind = put_name(out, name, slot);
+        rest = others;
     }
-    let end = slot_end(t);
-    let at = put(out, at, b" ");
-    let at = put_name(out, at, &t[..end]);
-    put_taxiways(out, at, &t[end..], n - 1)
+    behind
 }
 
 // The taxiways of an item, and behind a space what is said of them.
 fn put_of_taxiways(out: &mut [u8], at: usize, i: Item, said: &[u8]) -> usize
     ensures { Put at (canonical (of_taxiways i (bytes " " ++ said.now))) out.old out.new result }
 {
-    let t = i.taxiways;
     let at = put(out, at, &words::TWY);
-    let at = put_taxiways(out, at, &t, i.count);
+    let at = put_taxiways(out, at, &i.taxiways, i.count);
     let at = put(out, at, b" ");
     put(out, at, said)
 }
@@ -118,32 +109,32 @@ fn put_poor_taxiways(out: &mut [u8], at: usize, i: Item) -> usize
     ensures { Put at (canonical (poor_taxiways i)) out.old out.new result }
 {
     if i.count == 0 {
-        return put(out, at, &words::ALL_TWY_POOR);
+        put(out, at, &words::ALL_TWY_POOR)
+    } else {
+        put_of_taxiways(out, at, i, &words::POOR)
     }
-    put_of_taxiways(out, at, i, &words::POOR)
 }
 
 // Item R.
 fn put_poor_apron(out: &mut [u8], at: usize, i: Item) -> usize
     ensures { Put at (canonical (poor_apron i)) out.old out.new result }
 {
-    let name = i.name;
-    if counted(&name, 0, CAPITALS_AND_DIGITS, 1) {
+    if is_named(&i.name) {
         let at = put(out, at, &words::APRON);
         let at = put(out, at, b" ");
-        let at = put_name(out, at, &name);
+        let at = put_name(out, at, &i.name);
         let at = put(out, at, b" ");
-        return put(out, at, &words::POOR);
+        put(out, at, &words::POOR)
+    } else {
+        put(out, at, &words::ALL_APRON_POOR)
     }
-    put(out, at, &words::ALL_APRON_POOR)
 }
 
 // An item without its full stop.
 fn put_text(out: &mut [u8], at: usize, i: Item) -> usize
     ensures { Put at (canonical (item_text i)) out.old out.new result }
 {
-    let letter = i.letter;
-    match letter {
+    match i.letter {
         b'I' => put_length(out, at, i),
         b'J' => put(out, at, &words::DRIFTING_SNOW),
         b'K' => put_of_runway(out, at, i, &words::LOOSE_SAND),
@@ -166,30 +157,17 @@ pub fn put_item(out: &mut [u8], at: usize, item: Item) -> usize
 
 // ---- Writing a line
 
-// The space before an item that stands at place `k` of the line; the first has none.
-fn put_parting(out: &mut [u8], at: usize, k: u8) -> usize
-    ensures { Put at (cond (eqb k 0) [] (bytes " ")) out.old out.new result }
+// Puts these items, one space between two.
+pub fn put_awareness(out: &mut [u8], at: usize, items: &[Item]) -> usize
+    ensures { Put at (canonical (awareness_pieces items.now)) out.old out.new result }
 {
-    if k == 0 {
+    let Some((first, others)) = items.split_first() else {
         return told_behind(out, at, 0);
-    }
-    put(out, at, b" ")
-}
-
-// Puts the first `count` items, at most 32, one space between two.
-pub fn put_awareness(out: &mut [u8], at: usize, items: [Item; 32], count: u8) -> usize
-    ensures { Put at (canonical (awareness_pieces (take count items))) out.old out.new result }
-{
-    let mut behind = told_behind(out, at, 0);
-    let mut k: u8 = 0;
-    while k < MOST_ITEMS {
-        if count <= k {
-            return behind;
-        }
-        let item = items[k as usize];
-        let start = put_parting(out, behind, k);
-        behind = put_item(out, start, item);
-        k += 1;
+    };
+    let mut behind = put_item(out, at, *first);
+    for item in others {
+        let start = put(out, behind, b" ");
+        behind = put_item(out, start, *item);
     }
     behind
 }

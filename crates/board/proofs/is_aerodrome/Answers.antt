@@ -1,6 +1,7 @@
-use mathlib.Core.Path.{◌∙◌, ap}
+use Rattle.std.proofs.Common.{◌∙◌, ap}
+use Rattle.std.specs.Option.{is_some}
 use Rattle.board.specs.Laws.Aerodrome.{aerodrome-fits}
 use Rattle.board.proofs.is_aerodrome.Goals as goal
 
 pub returns : goal.returns
-returns c = ap (λ r. r.fits) c.read_aerodrome.ensures ∙ aerodrome-fits _
+returns c = c.is_some.ensures ∙ ap is_some c.read_aerodrome.ensures ∙ aerodrome-fits c.args.a

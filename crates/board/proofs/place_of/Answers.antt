@@ -1,25 +1,11 @@
-use mathlib.Core.Path.{sym, ◌∙◌}
-use native.Mathlib.Omega.{arith}
-use Rattle.board.proofs.Places.{place-past, place_end, place-hit, place-miss}
+use Rattle.std.proofs.Common.{rules}
+use Rattle.std.proofs.lemmas.Iterator.{YieldsList-from_slice}
+use Rattle.std.proofs.lemmas.Iterator.Search.{position_from_yields_List}
+use Rattle.board.specs.Board.{names}
+use Rattle.board.proofs.Places.{place-found}
 use Rattle.board.proofs.place_of.Goals as goal
 
-pub loop-i-init : goal.loop-i-init
-loop-i-init c = (omega arith, omega arith)
-
-pub returns-then-count-i : goal.returns-then-count-i
-returns-then-count-i c = let a = c.args in omega (arith, place-past a.count a.runways c.loop-i.i a.r c.if-count-i.true)
-
-pub returns-then-names : goal.returns-then-names
-returns-then-names c =
-    let a = c.args in
-    let l = c.loop-i in
-    omega (arith, place-hit a.count a.runways l.i (omega arith) (omega arith) a.r (sym c.names.ensures ∙ c.if-names.true))
-
-pub loop-i-preserved : goal.loop-i-preserved
-loop-i-preserved c =
-    let a = c.args in
-    let l = c.loop-i in
-    (omega arith, omega (arith, place-miss a.count a.runways l.i (omega arith) (omega arith) a.r (sym c.names.ensures ∙ c.if-names.false)))
-
 pub returns : goal.returns
-returns c = let a = c.args in omega (arith, place_end a.count a.runways c.loop-i.i a.r (omega arith))
+returns c =
+    let a = c.args in
+    place-found a.r a.runways.now (position_from_yields_List (names a.r) _ _ _ c.position.ensures.ran (YieldsList-from_slice _ cc) (λ x b q k. search rules))

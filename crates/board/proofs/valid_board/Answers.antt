@@ -1,26 +1,17 @@
-use mathlib.Core.Path.{sym, ◌∙◌, ap}
-use lib.Dec.{eqb}
-use Rattle.board.specs.Board.{valid_board}
-use Rattle.board.specs.Laws.Rules.{places-good}
-use Rattle.text.specs.Laws.Tests.{tests, and-on}
+use Rattle.std.proofs.Common.{arith, length-take, sym, ◌∙◌}
+use Rattle.board.specs.Laws.Rules.{opening-few, goods}
 use Rattle.board.proofs.valid_board.Goals as goal
+use Rattle.board.proofs.valid_board.Goals.{then-valid_opening, else-valid_opening}
+
+pub used-requires : goal.used-requires
+used-requires c = let b = c.args.b in opening-few b.aerodrome b.count b.runways b.owners (sym c.if-valid_opening.ensures)
+
+pub fit_places-requires : goal.fit_places-requires
+fit_places-requires c = rw (c.used.ensures, length-take) (omega arith)
 
 pub latest_shown-requires : goal.latest_shown-requires
 latest_shown-requires c =
-    let b = c.args.b in
-    places-good b.count b.runways b.rows (sym c.valid_places.ensures ∙ c.if-valid_places.true)
-
-pub returns-then-valid_places : goal.returns-then-valid_places
-unfolding valid_board
-returns-then-valid_places c =
-    let b = c.args.b in
-    and-on _ _ _ (sym c.valid_opening.ensures ∙ c.if-valid_opening.true)
-    (and-on _ _ _ (sym c.valid_places.ensures ∙ c.if-valid_places.true) (ap (eqb b.latest) c.latest_shown.ensures))
-
-pub returns-else-valid_places : goal.returns-else-valid_places
-unfolding valid_board
-returns-else-valid_places c = search tests
-
-pub returns-else-valid_opening : goal.returns-else-valid_opening
-unfolding valid_board
-returns-else-valid_opening c = search tests
+    elim c.if-valid_opening.branch [
+      | then-valid_opening w ↦ goods _ c.args.b.rows (sym w.fit_places.ensures ∙ sym w.value-is ∙ c.if-fit_places.true)
+      | else-valid_opening w ↦ absurd (cc)
+    ]

@@ -2,13 +2,14 @@
 use Rattle.std.specs.Prelude.{ℕ, zero, suc, ◌≡◌, refl, List, [], ◌∷◌, Bool, true, false, eqb, length}
 use Rattle.std.proofs.Common.{◌∙◌}
 use Rattle.std.proofs.Math.Dec.{eqb-zero-suc, eqb-suc-zero, eqb-suc-suc}
+use Rattle.std.specs.Option.{is_some}
 use Rattle.text.specs.Choice.{◌and◌, all}
 use Rattle.text.specs.Read.{Got, misfit, got, guard, and_then, whole}
 use Rattle.text.specs.Names.{is_letter, read_count}
 use Rattle.text.specs.Code.Held.{is_got}
 use Rattle.frontlines.specs.Letters.{is_letters}
 use Rattle.frontlines.specs.Heading.{aerodrome_size, read_aerodrome}
-use Rattle.frontlines.specs.Code.Answers.{aerodrome_answer}
+use Rattle.frontlines.specs.Code.Answers.{found}
 use Rattle.board.specs.Board.{is_aerodrome}
 
 -- n bytes of a class fill the whole of a list exactly if it has n, all of the class
@@ -28,10 +29,10 @@ count_fits p (suc n) (x ∷ l) = rw (eqb-suc-suc (length l) n) (go (p x) (read_c
     go true (got a []) q u v e = rw q (rw q at e)
     go true (got a (y ∷ k)) q u v e = rw q (rw q at e)
 
-pub aerodrome-fits : (a : List ℕ) → (aerodrome_answer (whole (read_aerodrome a))).fits ≡ is_aerodrome a
+pub aerodrome-fits : (a : List ℕ) → is_some (found (whole (read_aerodrome a))) ≡ is_aerodrome a
 unfolding is_aerodrome is_letters read_aerodrome
 aerodrome-fits a = go (whole (read_count is_letter aerodrome_size a)) ∙ count_fits is_letter aerodrome_size a
   where
-    go : (g : Got (List ℕ)) → (aerodrome_answer g).fits ≡ is_got g
+    go : (g : Got (List ℕ)) → is_some (found g) ≡ is_got g
     go misfit = refl
     go (got l r) = refl

@@ -120,6 +120,15 @@ place_is d v r (w ∷ ws) (suc i) h l n =
     let k = and-2 _ _ h in
     rw (before-apart r w (get_or ws i d) (rising-over d w ws i k (omega arith)) n) (ap suc (place_is d w r ws i k (omega arith) n))
 
+-- a list has eight runways at most
+pub list-few : (a : List ℕ) (n : ℕ) (ws : List Runway) → valid_list a n ws ≡ true → n ≤ 8
+unfolding valid_list
+list-few a n ws h = leb-true n 8 (and-1 _ _ (and-2 _ _ (and-2 _ _ h)))
+
+pub opening-few : (a : List ℕ) (n : ℕ) (ws : List Runway) (os : List ℕ) → valid_opening a n ws os ≡ true → n ≤ 8
+unfolding valid_opening
+opening-few a n ws os h = list-few a n ws (and-1 _ _ h)
+
 -- the rules, one by one
 pub record Rules (b : Board) : Type 0 where
   pub list : valid_list b.aerodrome b.count b.runways ≡ true

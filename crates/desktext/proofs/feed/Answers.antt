@@ -1,66 +1,38 @@
-use Prim.Native.Nat.{◌≤◌, ◌<◌}
-use mathlib.Core.Path.{refl, sym, subst, ◌∙◌}
-use lib.ListN.{length, length-set}
+use Rattle.std.proofs.Common.{sym, subst, ◌∙◌}
 use Rattle.text.specs.Put.{Put}
 use Rattle.text.specs.Laws.Put.{nothing_put}
-use Rattle.desktext.proofs.Steps.{state, state-on, after-feed, goes-feed, after_kept, after-full, text-kept, state-out, text_out}
-use borrow.Author.Rules.{rules}
+use Rattle.desktext.proofs.Steps.{state-on, after-feed, goes-feed, after-other, text-kept, state-out, text_out}
 use Rattle.desktext.proofs.feed.Goals as goal
+use Rattle.desktext.proofs.feed.Goals.{then-b-eq-LF, else-b-eq-LF}
 
-pub loop-i-init : goal.loop-i-init
-loop-i-init c = (search rules, refl, search rules, refl, λ x q p. p)
-
-pub loop-i-preserved-then-b-eq-LF : goal.loop-i-preserved-then-b-eq-LF
-loop-i-preserved-then-b-eq-LF c =
+pub loop-b-preserved : goal.loop-b-preserved
+loop-b-preserved c =
     let m = c.args.piece.now in
-    let l = c.loop-i in
-    let s = state l.standing l.held l.count in
-    let t = c.take_held-turn in
-    let lf = c.if-b-eq-LF.true in
-    let low : l.i < length m = search rules in
-    let e = after-feed m l.i low s lf t.ensures.standing_value in
-    (search rules, t.auto.out ∙ l.invariant.1, l.invariant.2, state-on m l.i low s e ∙ l.invariant.3, goes-feed m l.i low s lf e l.invariant.4 t.ensures.put)
-
-pub loop-i-preserved-then-count-lt-MOST_KEPT : goal.loop-i-preserved-then-count-lt-MOST_KEPT
-loop-i-preserved-then-count-lt-MOST_KEPT c =
-    let m = c.args.piece.now in
-    let l = c.loop-i in
-    let s = state l.standing l.held l.count in
-    let low : l.i < length m = search rules in
-    let other = c.if-b-eq-LF.false in
-    let e = after_kept m l.i low s other c.if-count-lt-MOST_KEPT.true in (
-      search rules,
-      l.invariant.1,
-      simp length-set l.invariant.2,
-      state-on m l.i low s e ∙ l.invariant.3,
-      λ x q p. l.invariant.4 x q (subst (λ t. Put l.behind t l.out x q) (text-kept m l.i low s other e) p),
-    )
-
-pub loop-i-preserved : goal.loop-i-preserved
-loop-i-preserved c =
-    let m = c.args.piece.now in
-    let l = c.loop-i in
-    let s = state l.standing l.held l.count in
-    let low : l.i < length m = search rules in
-    let other = c.if-b-eq-LF.false in
-    let e = after-full m l.i low s other (search rules) in (
-      search rules,
-      l.invariant.1,
-      l.invariant.2,
-      state-on m l.i low s e ∙ l.invariant.3,
-      λ x q p. l.invariant.4 x q (subst (λ t. Put l.behind t l.out x q) (text-kept m l.i low s other e) p),
-    )
-
-pub shape_of-out : goal.shape_of-out
-shape_of-out c = c.loop-i.invariant.1
+    let l = c.loop-b in
+    let low = c.loop-b-test.true in
+    elim c.if-b-eq-LF.branch [
+      | then-b-eq-LF w ↦
+          let t = w.take_line-turn.ensures in
+          let line = rw w.begun.ensures at w.without_return.ensures in
+          let e = after-feed m l.b-index low l.state w.if-b-eq-LF.true (rw line at t.standing_value) in
+          rw (w.out-is, w.state-is, w.behind-is) record {
+            state = state-on m l.b-index low l.state e ∙ l.invariant.state;
+            text = goes-feed m l.b-index low l.state w.if-b-eq-LF.true e l.invariant.text (rw line at t.put);
+          }
+      | else-b-eq-LF w ↦
+          let e = after-other m l.b-index low l.state w.if-b-eq-LF.false ∙ sym w.keep.ensures in
+          rw (w.out-is, w.state-is, w.behind-is) record {
+            state = state-on m l.b-index low l.state e ∙ l.invariant.state;
+            text = λ x q p. l.invariant.text x q (subst (λ t. Put l.behind t l.out x q) (text-kept m l.b-index low l.state w.if-b-eq-LF.false e) p);
+          }
+    ]
 
 pub returns : goal.returns
 returns c =
     let m = c.args.piece.now in
-    let l = c.loop-i in
-    let s = state l.standing l.held l.count in
-    let out : length m ≤ l.i = search rules in
+    let l = c.loop-b in
+    let out = c.loop-b-test.false in
     record {
-      state_value = sym (state-out s m l.i out) ∙ l.invariant.3;
-      put = l.invariant.4 l.out c.told_behind-behind.result (rw (text_out s m l.i out) (nothing_put l.out c.told_behind-behind.ensures));
+      state_value = sym (state-out l.state m l.b-index out) ∙ l.invariant.state;
+      put = l.invariant.text l.out c.told_behind.result (rw (text_out l.state m l.b-index out) (nothing_put l.out c.told_behind.ensures));
     }

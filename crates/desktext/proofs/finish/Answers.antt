@@ -4,6 +4,4 @@ use Rattle.desktext.proofs.finish.Goals as goal
 
 pub returns : goal.returns
 unfolding finish_text
-returns c =
-    let t = c.take_last-turn in
-    rw (← t.ensures.standing_value) (more t.ensures.put c.put_end.ensures)
+returns c = let t = c.take_last-turn in rw (← t.ensures.standing_value) (more t.ensures.put c.put_end.ensures)

@@ -1,36 +1,30 @@
-use mathlib.Core.Path.{refl, sym, ◌∙◌}
-use native.Mathlib.Omega.{arith}
-use lib.ListN.{drop, length-set}
-use borrow.Author.Tests.{not-true, not-false}
-use Rattle.desktext.proofs.Runways.{onto-all, list-more, held_on, held-off, way_end, way-full, way-off}
+use Rattle.std.proofs.Common.{arith, drop, length-drop, drop_of_length-le, sym, ◌∙◌}
+use Rattle.desktext.proofs.Runways.{list_all, list-more, list-end, list-full, list-off}
 use Rattle.desktext.proofs.runway_list.Goals as goal
 
 pub loop-at-init : goal.loop-at-init
-loop-at-init c = (omega arith, omega arith, refl, refl, onto-all c.args.s.now)
+loop-at-init c = record { few = omega arith; rest = list_all c.args.s.now }
 
-pub returns-then-count-ge-MOST_RUNWAYS : goal.returns-then-count-ge-MOST_RUNWAYS
-returns-then-count-ge-MOST_RUNWAYS c =
+pub returns-then-list-eq-MOST_RUNWAYS : goal.returns-then-list-eq-MOST_RUNWAYS
+returns-then-list-eq-MOST_RUNWAYS c =
     let m = c.args.s.now in
     let l = c.loop-at in
-    c.no_list.ensures ∙ way-full m l.at l.count l.runways l.owners l.invariant.4 (omega arith) (omega arith)
+    list-full l.list (drop l.at m) (simp length-drop (omega arith)) (omega arith) ∙ l.invariant.rest
 
-pub returns-then-not-found : goal.returns-then-not-found
-returns-then-not-found c =
+pub returns-in_err-found : goal.returns-in_err-found
+returns-in_err-found c =
     let m = c.args.s.now in
     let l = c.loop-at in
-    c.no_list-then-not-found.ensures ∙ way-off m l.at l.count l.runways l.owners l.invariant.4 (omega arith) (omega arith)
-    (held-off c.owned_runway-found.ensures (not-true _ c.if-not-found.true))
+    rw c.from_residual.ensures (list-off l.list (drop l.at m) (simp length-drop (omega arith)) (omega arith) c.in_err-found.ensures.says ∙ l.invariant.rest)
 
 pub loop-at-preserved : goal.loop-at-preserved
 loop-at-preserved c =
     let m = c.args.s.now in
     let l = c.loop-at in
-    let f = c.owned_runway-found in
-    let e = held_on f.ensures (not-false _ c.if-not-found.false) in
-    (f.ensures.within, omega arith, simp length-set l.invariant.2, simp length-set l.invariant.3, sym (list-more l.count l.runways l.owners (drop l.at m) (omega arith) e) ∙ l.invariant.4)
+    record { few = omega arith; rest = sym (list-more l.list (drop l.at m) (omega arith) c.in_ok-found.ensures.says) ∙ l.invariant.rest }
 
 pub returns : goal.returns
 returns c =
     let m = c.args.s.now in
     let l = c.loop-at in
-    way_end m l.at l.count l.runways l.owners l.invariant.4 (omega arith)
+    list-end l.list ∙ (rw (drop_of_length-le m c.loop-at-test.false) at l.invariant.rest)

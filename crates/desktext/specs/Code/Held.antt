@@ -1,16 +1,14 @@
--- What the code's answer says of the reader of a runway with its owner.
-use Rattle.std.specs.Prelude.{ℕ, ◌≤◌, ◌≡◌, List, cond, false, length, drop}
-use Rattle.text.specs.Read.{Got, misfit, got}
+-- What the code's answers say of the readers of a space, and of a runway with its owner.
+use Rattle.std.specs.Prelude.{ℕ, List, [], ◌∷◌, Option}
+use Rattle.text.specs.Read.{Got}
+use Rattle.text.specs.Code.Held.{Told}
 use Rattle.board.specs.declared.Runway.{Runway}
-use Rattle.board.specs.Board.{blank_runway}
 use Rattle.desktext.specs.declared.OwnedFound.{OwnedFound}
 
--- no runway: a misfit is all zero
-abbrev pub not_owned : OwnedFound
-not_owned = record { fits = false; runway = blank_runway; owner = 0; next = 0 }
+-- the answer r is the reading g of one space in m: the place behind it
+abbrev pub HeldSpace : List ℕ → Got (List ℕ) → Option ℕ → Type 0
+HeldSpace = Told (λ _. 32 ∷ []) (λ i. i)
 
--- the answer r is the reading g of a part of m; a misfit is all zero
-pub record HeldOwned (m : List ℕ) (g : Got (Runway × ℕ)) (r : OwnedFound) : Type 0 where
-  pub within : r.next ≤ length m
-  pub says : g ≡ cond r.fits (got (r.runway, r.owner) (drop r.next m)) misfit
-  pub blank : r ≡ cond r.fits r not_owned
+-- the answer r is the reading g of a runway and its owner in m
+abbrev pub HeldOwned : List ℕ → Got (Runway × ℕ) → Option OwnedFound → Type 0
+HeldOwned = Told (λ f. (f.runway, f.owner)) (λ f. f.next)

@@ -1,5 +1,5 @@
 -- An opening line is read exactly if it is the text of an aerodrome and runways with their owners; a row line starts with its sender.
-use Rattle.std.specs.Prelude.{ℕ, zero, suc, ◌+◌, ◌-◌, ◌*◌, ◌<◌, ◌≤◌, ◌^◌, ◌≡◌, refl, List, [], ◌∷◌, map, cond, Bool, true, false, eqb, leb, length, take, get_or, replicate}
+use Rattle.std.specs.Prelude.{ℕ, zero, suc, ◌+◌, ◌-◌, ◌*◌, ◌<◌, ◌≤◌, ◌^◌, ◌≡◌, refl, List, [], ◌∷◌, map, Option, cond, Bool, true, false, eqb, leb, length, take, get_or, replicate}
 use Rattle.std.proofs.Common.{sym, subst, ◌∙◌, ap, length-append, eqb-true, leb-true, arith}
 use Rattle.std.proofs.lemmas.List.{length-map}
 use Rattle.std.proofs.lemmas.Bool.{lt-leb}
@@ -12,8 +12,8 @@ use Rattle.text.specs.Numbers.{digits, is_digit}
 use Rattle.text.specs.Laws.Typing.{cut}
 use Rattle.text.specs.Read.{Got, misfit, got, whole, read_as}
 use Rattle.text.specs.Arrays.{is_zero, pad}
-use Rattle.text.specs.Laws.Base.{Laws, Head, Any, inner, inline, and-1, and-2}
-use Rattle.text.specs.Laws.Held.{Told, told-one}
+use Rattle.text.specs.Laws.Base.{Laws, Head, Any, inner, inline, and-1, and-2, true-false}
+use Rattle.text.specs.Laws.Held.{told-one}
 use Rattle.text.specs.Laws.Combine.{seq-laws, as-laws, loosen}
 use Rattle.text.proofs.Laws.Combine.{after-laws}
 use Rattle.text.specs.Laws.Names.{all-at, count-laws}
@@ -37,14 +37,14 @@ use Rattle.board.specs.declared.Runway.{Runway}
 use Rattle.board.specs.declared.Board.{Board}
 use Rattle.board.specs.declared.Answer.{Answer}
 use Rattle.board.specs.Board.{places, blank_runway, is_blank_runway, is_aerodrome, rises, rising, valid_list, is_desk, valid_owners, valid_opening, fits_place}
-use Rattle.board.specs.Board.{runways_of, valid_board, fresh, answer, opening, refused_opening}
+use Rattle.board.specs.Board.{runways_of, valid_board, fresh, blank_board, answer, opening, refused_opening}
 use Rattle.board.specs.Report.{row_at}
 use Rattle.board.specs.Shows.{nothing, row, shown_at}
 use Rattle.board.specs.Laws.Rows.{blank-invalid}
 use Rattle.board.specs.Laws.Rules.{rules, used, fit_at}
 use Rattle.board.specs.Laws.Demand.{opened-fresh as was-opened}
 use Rattle.desktext.specs.declared.OwnedFound.{OwnedFound}
-use Rattle.desktext.specs.Code.Held.{HeldOwned, not_owned}
+use Rattle.desktext.specs.Code.Held.{HeldSpace, HeldOwned}
 use Rattle.desktext.specs.Line.{spaced_pieces, read_spaced, make_runway, read_owner, read_owned, owned_pieces, with_owners, opening_pieces, read_opening, list_of}
 use Rattle.desktext.specs.Line.{opening_read, opening_line, sender_pieces, read_sender, report_line}
 
@@ -85,14 +85,13 @@ pub owned-laws : Laws Owned owned_pieces read_owned (Head is_space) Any
 unfolding read_owned read_owner inline spell ◌and◌
 owned-laws = seq-laws spaced-laws (after-laws (digits-laws 0) 47 [] refl (λ m h. refl)) slash-no-side
 
--- the promise of reading a runway with its owner leaves no choice
-pub owned-one : {m : List ℕ} {g : Got (Runway × ℕ)} {r s : OwnedFound} → HeldOwned m g r → HeldOwned m g s → r ≡ s
-owned-one {m} {g} p q =
-    told-one (λ f. f.fits) (λ f. (f.runway, f.owner)) (λ f. f.next) not_owned m g
-    (λ a b x v n. λ i. record { fits = x i; runway = (v i).0; owner = (v i).1; next = n i }) (tells p) (tells q)
-  where
-    tells : {t : OwnedFound} → HeldOwned m g t → Told (λ f. f.fits) (λ f. (f.runway, f.owner)) (λ f. f.next) not_owned m g t
-    tells h = record { within = h.within; says = h.says; blanks = h.blank }
+-- the promises of reading a space, and a runway with its owner, leave no choice
+pub space-one : {m : List ℕ} {g : Got (List ℕ)} {r s : Option ℕ} → HeldSpace m g r → HeldSpace m g s → r ≡ s
+space-one p q = told-one (λ _. 32 ∷ []) (λ i. i) (λ a b v n. n) p q
+
+pub owned-one : {m : List ℕ} {g : Got (Runway × ℕ)} {r s : Option OwnedFound} → HeldOwned m g r → HeldOwned m g s → r ≡ s
+owned-one p q =
+    told-one (λ f. (f.runway, f.owner)) (λ f. f.next) (λ a b v n. λ i. record { runway = (v i).0; owner = (v i).1; next = n i }) p q
 
 -- the line ends behind its last owner
 pub nothing-owned : read_owned [] ≡ misfit
@@ -185,6 +184,19 @@ opening-long line h = go (whole (read_opening line)) refl
         let (v, t) = whole-sound opening-laws {m = line} q in
         let c = cut (verbatim p.0) t in
         absurd (omega (arith, letters-long aerodrome_size p.0 v.0, v.1.0, verbatim-short p.0 c.left, runways-short p.1 c.right))
+
+-- a line that is refused gives the blank board
+pub refused-blank : (line : List ℕ) → eqb (opening_line line).refusal 0 ≡ false → (opening_line line).board ≡ blank_board
+unfolding opening_line opening
+refused-blank line e = go (whole (read_opening line)) e
+  where
+    opened : (t : Bool) (b : Board) → eqb (cond t (answer 0 b) refused_opening).refusal 0 ≡ false → (cond t (answer 0 b) refused_opening).board ≡ blank_board
+    opened true b e = true-false e
+    opened false b e = refl
+
+    go : (g : Got (List ℕ × List (Runway × ℕ))) → eqb (opening_read g).refusal 0 ≡ false → (opening_read g).board ≡ blank_board
+    go misfit e = refl
+    go (got p r) e = let l = list_of p.1 in opened (valid_opening p.0 l.count l.runways l.owners) (fresh p.0 l.count l.runways l.owners) e
 
 -- a line over 4,096 bytes is no row
 pub long-report : (b : Board) (line : List ℕ) → longest < length line → report_line b line ≡ answer no_row b

@@ -16,40 +16,39 @@ use Rattle.text.specs.Laws.Lines.{all_append}
 use Rattle.board.specs.declared.Board.{Board}
 use Rattle.board.specs.Board.{blank_board}
 use Rattle.desktext.specs.declared.Standing.{Standing}
+use Rattle.desktext.specs.declared.Standing.TheVariants.{Waiting, Keeping, Over}
 use Rattle.desktext.specs.declared.State.{State}
 use Rattle.desktext.specs.Line.{opening_line, report_line}
-use Rattle.desktext.specs.Desk.{printed, answer_line, answers_text, refused_text, lines_text, desk_text, report_lines, lines_board, desk_board}
-use Rattle.desktext.specs.Pieces.{waiting, keeping, over, standing, opened_standing, opened_line, after_line, line_answer, end_answer, most_kept, start_state}
+use Rattle.desktext.specs.Desk.{printed, answers_text, refused_text, lines_text, desk_text, report_lines, lines_board, desk_board}
+use Rattle.desktext.specs.Pieces.{after_line, line_answer, end_answer, board_of, most_kept, start_state}
 use Rattle.desktext.specs.Pieces.{begun, kept_byte, without_return, after_byte, byte_answer, fed_state, fed_text, last_standing, last_text, finish_text}
 use Rattle.desktext.specs.Pieces.{pieces_text}
-use Rattle.desktext.specs.Laws.Line.{opening-long, long-report}
+use Rattle.desktext.specs.Laws.Line.{opening-long, refused-blank, long-report}
 
 -- ---- Lines
 
 -- what a desk prints for the lines that are left
 abbrev from : Standing → List (List ℕ) → List ℕ
-from d ls = cond (eqb d.phase waiting) (lines_text ls) (cond (eqb d.phase keeping) (answers_text d.board ls) [])
+from Waiting ls = lines_text ls
+from (Keeping b) ls = answers_text b ls
+from Over ls = []
 
 from-none : (d : Standing) → end_answer d ≡ from d []
 unfolding end_answer answers_text
-from-none d = refl
+from-none Waiting = refl
+from-none (Keeping b) = refl
+from-none Over = refl
 
 from-line : (d : Standing) (l : List ℕ) (ls : List (List ℕ)) → line_answer d l ++ from (after_line d l) ls ≡ from d (l ∷ ls)
 unfolding line_answer after_line answers_text
-from-line d l ls = go (eqb d.phase waiting) refl (eqb d.phase keeping) refl
+from-line Waiting l ls = go (eqb (opening_line l).refusal 0) (opening_line l).board
   where
-    opened : (t : Bool) (b : Board) → cond t (printed (bytes "OPEN")) refused_text ++ from (cond t (standing keeping b) (standing over b)) ls
+    go : (t : Bool) (b : Board) → cond t (printed (bytes "OPEN")) refused_text ++ from (cond t (Keeping b) Over) ls
         ≡ cond t (printed (bytes "OPEN") ++ answers_text b ls) refused_text
-    opened true b = refl
-    opened false b = refl
-
-    go : (w : Bool) → eqb d.phase waiting ≡ w → (k : Bool) → eqb d.phase keeping ≡ k
-        → cond w (opened_line (opening_line l)) (cond k (answer_line (report_line d.board l).refusal) [])
-        ++ from (cond w (opened_standing (opening_line l)) (cond k (standing keeping (report_line d.board l).board) d)) ls
-        ≡ cond w (lines_text (l ∷ ls)) (cond k (answers_text d.board (l ∷ ls)) [])
-    go true e k f = opened (eqb (opening_line l).refusal 0) (opening_line l).board
-    go false e true f = refl
-    go false e false f = rw (e, f)
+    go true b = refl
+    go false b = refl
+from-line (Keeping b) l ls = refl
+from-line Over l ls = refl
 
 -- bytes without an LF, and then one: a line
 lines-fed : (r m : List ℕ) → all is_unfed r ≡ true → lines (r ++ (10 ∷ m)) ≡ without_return r ∷ lines m
@@ -103,10 +102,23 @@ record Alike (l k : List ℕ) : Type 0 where
 -- over-long lines are alike, whatever their bytes are
 long-alike : (l k : List ℕ) → longest < length l → longest < length k → Alike l k
 unfolding after_line line_answer
-long-alike l k h g =
-    let o : opening_line l ≡ opening_line k = opening-long l (omega arith) ∙ sym (opening-long k (omega arith)) in
-    let r : (b : Board) → report_line b l ≡ report_line b k = (λ b. long-report b l h ∙ sym (long-report b k g)) in
-    record { after = λ d. rw (o, r d.board); says = λ d. rw (o, r d.board) }
+long-alike l k h g = record { after = after; says = says }
+  where
+    opened : opening_line l ≡ opening_line k
+    opened = opening-long l (omega arith) ∙ sym (opening-long k (omega arith))
+
+    reported : (b : Board) → report_line b l ≡ report_line b k
+    reported b = long-report b l h ∙ sym (long-report b k g)
+
+    after : (d : Standing) → after_line d l ≡ after_line d k
+    after Waiting = rw opened
+    after (Keeping b) = rw (reported b)
+    after Over = refl
+
+    says : (d : Standing) → line_answer d l ≡ line_answer d k
+    says Waiting = rw opened
+    says (Keeping b) = rw (reported b)
+    says Over = refl
 
 return-size : (l : List ℕ) → length l ≤ suc (length (without_return l))
 unfolding without_return
@@ -261,27 +273,27 @@ stands-lines (x ∷ m) s r k = go (eqb x 10) refl (stands-lines m)
     go false e ih =
         rw (ih (kept_byte s x) (r ++ (x ∷ [])) (kept_more s r x k e), append_assoc, same (ltb s.count most_kept))
 
-keeps-board : (b : Board) (ls : List (List ℕ)) → (after_lines (standing keeping b) ls).board ≡ report_lines b ls
+keeps-board : (b : Board) (ls : List (List ℕ)) → board_of (after_lines (Keeping b) ls) ≡ report_lines b ls
 unfolding after_lines after_line report_lines
 keeps-board b [] = refl
 keeps-board b (l ∷ ls) = keeps-board (report_line b l).board ls
 
-over-board : (b : Board) (ls : List (List ℕ)) → (after_lines (standing over b) ls).board ≡ b
+over-board : (ls : List (List ℕ)) → board_of (after_lines Over ls) ≡ blank_board
 unfolding after_lines after_line
-over-board b [] = refl
-over-board b (l ∷ ls) = over-board b ls
+over-board [] = refl
+over-board (l ∷ ls) = over-board ls
 
-opens-board : (ls : List (List ℕ)) → (after_lines (standing waiting blank_board) ls).board ≡ lines_board ls
+opens-board : (ls : List (List ℕ)) → board_of (after_lines Waiting ls) ≡ lines_board ls
 unfolding after_lines after_line
 opens-board [] = refl
-opens-board (l ∷ ls) = go (eqb (opening_line l).refusal 0) (opening_line l).board
+opens-board (l ∷ ls) = go (eqb (opening_line l).refusal 0) refl
   where
-    go : (t : Bool) (b : Board) → (after_lines (cond t (standing keeping b) (standing over b)) ls).board ≡ cond t (report_lines b ls) b
-    go true b = keeps-board b ls
-    go false b = over-board b ls
+    go : (t : Bool) → eqb (opening_line l).refusal 0 ≡ t
+        → board_of (after_lines (cond t (Keeping (opening_line l).board) Over) ls) ≡ cond t (report_lines (opening_line l).board ls) (opening_line l).board
+    go true e = keeps-board (opening_line l).board ls
+    go false e = over-board ls ∙ sym (refused-blank l e)
 
 -- the board after all bytes of an input is the board after its lines
-pub whole-board : (m : List ℕ) → (last_standing (fed_state start_state m)).board ≡ desk_board m
+pub whole-board : (m : List ℕ) → board_of (last_standing (fed_state start_state m)) ≡ desk_board m
 unfolding desk_board
-whole-board m =
-    ap (λ d. d.board) (stands-lines m start_state [] (kept-none start_state (length-replicate {A = ℕ} most_kept 0) refl)) ∙ opens-board (lines m)
+whole-board m = ap board_of (stands-lines m start_state [] (kept-none start_state (length-replicate {A = ℕ} most_kept 0) refl)) ∙ opens-board (lines m)

@@ -1,5 +1,5 @@
 -- Lines 1 to 5: filled in line by line, as the code reads them, and one under the other, as it puts them; what the code's answers say.
-use Rattle.std.specs.Prelude.{ℕ, zero, suc, ◌≤◌, ◌≡◌, List, [], ◌∷◌, ◌++◌, eqb, ltb, length, drop, cond}
+use Rattle.std.specs.Prelude.{ℕ, zero, suc, ◌≤◌, ◌≡◌, List, [], ◌∷◌, ◌++◌, eqb, ltb, length, drop, cond, Result, MatchResult}
 use Rattle.text.specs.Piece.{canonical}
 use Rattle.text.specs.Lines.{Cut, cut, text, onward, cuts, lines_size}
 use Rattle.text.specs.Read.{Got, read_as, whole}
@@ -8,12 +8,16 @@ use Rattle.frontlines.specs.declared.Filing.{Filing}
 use Rattle.frontlines.specs.declared.Title.{Title}
 use Rattle.frontlines.specs.Addresses.{read_addresses, addresses_pieces}
 use Rattle.frontlines.specs.Filing.{read_filing, filing_pieces}
-use Rattle.frontlines.specs.Heading.{Heading, aerodrome_size, read_heading, read_serial_line, read_aerodrome, heading_pieces, serial_pieces, aerodrome_pieces}
+use Rattle.frontlines.specs.declared.Heading.{Heading}
+use Rattle.frontlines.specs.Heading.{aerodrome_size, read_heading, read_serial_line, read_aerodrome, heading_pieces, serial_pieces, aerodrome_pieces}
 use Rattle.frontlines.specs.Code.Answers.{zeros, blank_addresses, blank_filing, blank_title}
 use Rattle.text.specs.Out.{Out, refuse, taken, next, fit}
 use Rattle.front.specs.declared.Front.{Front}
-use Rattle.front.specs.declared.FrontRead.{FrontRead}
-use Rattle.text.specs.Refusals.{line_one_or_two, line_three, outline}
+use Rattle.front.specs.declared.FrontFound.{FrontFound}
+use Rattle.front.specs.declared.Line.{Line}
+use Rattle.front.specs.declared.Line.TheVariants.{First, Second, Third, Fourth, Fifth}
+use Rattle.text.specs.Refusals.{number, line_one_or_two, line_three, outline}
+use Rattle.text.specs.declared.refusal.Fault.{Fault}
 
 -- nothing is read yet
 abbrev pub blank_front : Front
@@ -47,7 +51,15 @@ heading_of f = record { title = f.title; time = f.time }
 abbrev pub front_count : ℕ
 front_count = 5
 
--- a line by its place, counted from 0, read whole into the front
+-- the place of each line, counted from 0
+abbrev pub number_of : Line → ℕ
+number_of First = 0
+number_of Second = 1
+number_of Third = 2
+number_of Fourth = 3
+number_of Fifth = 4
+
+-- a line by its place, read whole into the front
 unfoldable pub fill_line : ℕ → Front → List ℕ → Got Front
 fill_line k f l =
     cond (eqb k 0) (read_as (with_addresses f) (λ m. whole (read_addresses m)) l)
@@ -85,24 +97,22 @@ unfoldable pub fill_lines : ℕ → ℕ → Opening → List Cut → Out (Openin
 fill_lines zero k o cs = taken (o, cs)
 fill_lines (suc n) k o cs = next (next_line k o cs) (λ p. fill_lines n (suc k) p.0 p.1)
 
--- a refused reading is blank
-abbrev pub no_front : ℕ → ℕ → FrontRead
-no_front n at = record { refusal = n; place = at; front = blank_front; next = 0 }
-
--- the answer of the loop over lines 1 to 5: the front and the place behind it, or the refusal that left it and its place
-unfoldable pub front_answer : ℕ → ℕ → Front → ℕ → FrontRead
-front_answer n start f at = cond (eqb n 0) (record { refusal = 0; place = 0; front = f; next = at }) (no_front n start)
-
--- the answer r is the reading of the front of m; what is below it starts behind five lines
-pub record FrontHeld (m : List ℕ) (r : FrontRead) : Type 0 where
-  pub within : r.next ≤ length m
-  pub inside : r.place ≤ length m
+-- lines 1 to 5 of m are read; what is below them starts behind five lines
+pub record FrontTaken (m : List ℕ) (f : FrontFound) : Type 0 where
+  pub within : f.next ≤ length m
   pub opening : Opening
-  pub fronts : opening.front ≡ r.front
-  pub says : fill_lines front_count 0 unopened (cuts m)
-      ≡ cond (eqb r.refusal 0) (taken (opening, cuts (drop r.next m))) (refuse r.refusal (drop r.place m))
-  pub behind : r.next ≡ cond (eqb r.refusal 0) (lines_size front_count m) 0
-  pub blank : r ≡ front_answer r.refusal r.place r.front r.next
+  pub fronts : opening.front ≡ f.front
+  pub says : fill_lines front_count 0 unopened (cuts m) ≡ taken (opening, cuts (drop f.next m))
+  pub behind : f.next ≡ lines_size front_count m
+
+-- or the first that is missing or does not fit refuses it
+pub record FrontRefused (m : List ℕ) (f : Fault) : Type 0 where
+  pub within : f.place ≤ length m
+  pub says : fill_lines front_count 0 unopened (cuts m) ≡ refuse (number f.refusal) (drop f.place m)
+
+-- the answer r is the reading of the front of m
+abbrev pub FrontHeld : List ℕ → Result FrontFound Fault → Type 0
+FrontHeld m r = MatchResult r (FrontTaken m) (FrontRefused m)
 
 -- lines 1 to 5, one under the other
 abbrev pub front_text : Addresses → Filing → Title → ℕ → List ℕ

@@ -12,7 +12,8 @@ use Rattle.text.specs.Laws.Lines.{whole-got}
 use Rattle.text.specs.Laws.Left.{Left, left-trans, left-append, skip-left, left_by_lem, seq-left, gap-skip, if-got, digits-size}
 use Rattle.text.proofs.Laws.Left.{laws-left, text-left}
 use Rattle.runway.specs.Time.{real_time}
-use Rattle.frontlines.specs.Heading.{Heading, aerodrome_size, is_serial, read_serial, read_time, read_designator, make_heading, read_heading, read_serial_line}
+use Rattle.frontlines.specs.declared.Heading.{Heading}
+use Rattle.frontlines.specs.Heading.{aerodrome_size, is_serial, read_serial, read_time, read_designator, make_heading, read_heading, read_serial_line}
 use Rattle.frontlines.specs.Letters.{read_letters}
 use Rattle.frontlines.specs.Laws.Letters.{letters-laws, letter-no-space}
 use Rattle.front.specs.Places.{time_on, serial_on}

@@ -1,15 +1,16 @@
-use Rattle.text.specs.Laws.Tests.{tests}
+use Rattle.std.proofs.Common.{arith}
+use Rattle.text.specs.Choice.{◌and◌}
 use Rattle.items.specs.Item.{amount_fits}
 use Rattle.items.proofs.amount_fits.Goals as goal
 
-pub returns-then-i-eq73 : goal.returns-then-i-eq73
-unfolding amount_fits
-returns-then-i-eq73 c = simp (← c.is_between.ensures) (search tests)
+pub returns-in-73 : goal.returns-in-73
+unfolding amount_fits ◌and◌
+returns-in-73 c = grind arith
 
-pub returns-then-i-eq77 : goal.returns-then-i-eq77
-unfolding amount_fits
-returns-then-i-eq77 c = simp (← c.is_between-then-i-eq77.ensures) (search tests)
+pub returns-in-77 : goal.returns-in-77
+unfolding amount_fits ◌and◌
+returns-in-77 c = grind arith
 
-pub returns : goal.returns
-unfolding amount_fits
-returns c = search tests
+pub returns-in_default : goal.returns-in_default
+unfolding amount_fits ◌and◌
+returns-in_default c = grind arith

@@ -1,23 +1,23 @@
-use mathlib.Core.Path.{◌≡◌, sym, ◌∙◌}
-use native.Mathlib.Omega.{arith}
-use lib.ListN.{length}
-use Rattle.text.specs.Laws.Tests.{tests}
-use Rattle.items.proofs.Arrays.{items-sound, items-unsound}
+use Rattle.std.specs.Prelude.{◌≡◌, length}
+use Rattle.std.proofs.Common.{arith, rules}
+use Rattle.text.specs.Choice.{◌and◌, all}
+use Rattle.text.specs.Laws.Iter.{all_each}
+use Rattle.items.specs.Awareness.{valid_items, blank_item, is_blank_item}
 use Rattle.items.specs.Parts.{holds_items}
-use Rattle.items.specs.Awareness.{valid_items}
-use borrow.Author.Rules.{rules}
 use Rattle.items.proofs.holds_items.Goals as goal
 
 pub returns-then-i-gt-MOST_ITEMS : goal.returns-then-i-gt-MOST_ITEMS
-unfolding holds_items valid_items
-returns-then-i-gt-MOST_ITEMS c = search tests
+unfolding holds_items ◌and◌
+returns-then-i-gt-MOST_ITEMS c = grind arith
 
-pub returns-then-valid_front : goal.returns-then-valid_front
-returns-then-valid_front c =
-    let n : length c.args.i.items ≡ 32 = search rules in
-    c.blank_rest.ensures ∙ items-sound c.args.i n (omega arith) (sym c.valid_front.ensures ∙ c.if-valid_front.true)
+pub returns-then-sound_items : goal.returns-then-sound_items
+unfolding holds_items valid_items ◌and◌
+returns-then-sound_items c =
+    let rest = c.split_at.result.1.now in
+    let size : length c.args.i.items ≡ 32 = search rules in
+    let blank : c.all.result ≡ all is_blank_item rest = all_each is_blank_item rest blank_item (search rules) in
+    grind arith
 
-pub returns : goal.returns
-returns c =
-    let n : length c.args.i.items ≡ 32 = search rules in
-    items-unsound c.args.i n (omega arith) (sym c.valid_front.ensures ∙ c.if-valid_front.false)
+pub returns-else-sound_items : goal.returns-else-sound_items
+unfolding holds_items valid_items ◌and◌
+returns-else-sound_items c = let size : length c.args.i.items ≡ 32 = search rules in grind arith

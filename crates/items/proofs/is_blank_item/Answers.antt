@@ -1,15 +1,11 @@
-use Rattle.text.specs.Laws.Tests.{tests}
-use Rattle.items.specs.Awareness.{is_blank_item}
+use Rattle.std.specs.Prelude.{◌≡◌, ◌↔◌, IsTrue}
+use Rattle.std.proofs.Common.{rules}
+use Rattle.items.specs.declared.Item.{Item}
+use Rattle.items.specs.Awareness.{blank_item}
+use Rattle.items.proofs.Steps.{blank-told}
 use Rattle.items.proofs.is_blank_item.Goals as goal
 
-pub returns-then-is_blank_bytes : goal.returns-then-is_blank_bytes
-unfolding is_blank_item
-returns-then-is_blank_bytes c = simp (← c.has_no_numbers.ensures, ← c.is_blank_bytes.ensures, ← c.is_blank_bytes-then-is_blank_bytes.ensures) (search tests)
-
-pub returns-else-is_blank_bytes : goal.returns-else-is_blank_bytes
-unfolding is_blank_item
-returns-else-is_blank_bytes c = simp (← c.has_no_numbers.ensures, ← c.is_blank_bytes.ensures) (search tests)
-
-pub returns-else-has_no_numbers : goal.returns-else-has_no_numbers
-unfolding is_blank_item
-returns-else-has_no_numbers c = simp (← c.has_no_numbers.ensures) (search tests)
+pub returns : goal.returns
+returns c =
+    let same : IsTrue c.eq.result ↔ ◌≡◌ {A = Item} c.args.i blank_item = search rules in
+    blank-told c.args.i c.eq.result same

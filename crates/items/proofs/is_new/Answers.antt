@@ -1,13 +1,21 @@
-use mathlib.Core.Path.{sym, ◌∙◌}
-use lib.ListN.{drop}
-use Rattle.items.proofs.Steps.{new-off, new-on, new-end}
+use Rattle.std.specs.Prelude.{eqb}
+use Rattle.std.proofs.Common.{sym, ◌∙◌, arith}
+use Rattle.text.specs.Choice.{◌and◌}
+use Rattle.text.specs.Laws.Iter.{same-pointwise}
+use Rattle.items.proofs.Steps.{new-step, new-end}
 use Rattle.items.proofs.is_new.Goals as goal
 
-pub returns-then-same_bytes : goal.returns-then-same_bytes
-returns-then-same_bytes c = let l = c.loop-left in let a = c.args in sym (l.invariant.1 ∙ new-off a.t.now l.at c.slot_end-end.ensures a.w.now l.left c.loop-left-test.true (sym c.same_bytes.ensures ∙ c.if-same_bytes.true))
+pub returns-then-eq : goal.returns-then-eq
+unfolding ◌and◌
+returns-then-eq c =
+    let w = c.args.w.now in
+    grind (arith, new-step c.args.n c.loop.counter c.loop.rest.now c.loop-test.true w, same-pointwise eqb w c.first_slot.result.0.now)
 
-pub loop-left-preserved : goal.loop-left-preserved
-loop-left-preserved c = let l = c.loop-left in let a = c.args in (c.slot_end-end.ensures.within, l.invariant.1 ∙ new-on a.t.now l.at c.slot_end-end.ensures a.w.now l.left c.loop-left-test.true (sym c.same_bytes.ensures ∙ c.if-same_bytes.false))
+pub loop-preserved : goal.loop-preserved
+unfolding ◌and◌
+loop-preserved c =
+    let w = c.args.w.now in
+    grind (arith, new-step c.args.n c.loop.counter c.loop.rest.now c.loop-test.true w, same-pointwise eqb w c.first_slot.result.0.now)
 
 pub returns : goal.returns
-returns c = let l = c.loop-left in let a = c.args in sym (l.invariant.1 ∙ new-end a.w.now l.left (drop l.at a.t.now) c.loop-left-test.false)
+returns c = let l = c.loop in sym (l.invariant ∙ new-end c.args.n l.counter l.rest.now c.loop-test.false c.args.w.now)

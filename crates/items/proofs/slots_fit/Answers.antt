@@ -1,16 +1,15 @@
-use mathlib.Core.Path.{sym, ◌∙◌}
-use lib.ListN.{drop}
-use Rattle.items.proofs.Steps.{slots-invalid, slots_twice, slots-on, slots_end}
+use Rattle.std.proofs.Common.{sym, ◌∙◌, arith}
+use Rattle.text.specs.Choice.{◌and◌}
+use Rattle.items.proofs.Steps.{slots-step, slots_end}
 use Rattle.items.proofs.slots_fit.Goals as goal
 
-pub loop-left-preserved : goal.loop-left-preserved
-loop-left-preserved c = let l = c.loop-left in let f = c.args.t.now in let s = c.slot_end-end.ensures in (s.within, l.invariant.1 ∙ slots-on f l.at l.left s c.loop-left-test.true (sym c.valid_slot.ensures ∙ c.if-valid_slot.true) (sym c.is_new.ensures ∙ c.if-is_new.true))
+pub returns-then-not-is_new : goal.returns-then-not-is_new
+unfolding ◌and◌
+returns-then-not-is_new c = grind (arith, slots-step c.args.n c.loop-k.k c.loop-k.rest.now c.loop-k-test.true)
 
-pub returns-else-is_new : goal.returns-else-is_new
-returns-else-is_new c = let l = c.loop-left in let f = c.args.t.now in sym (l.invariant.1 ∙ slots_twice f l.at l.left c.slot_end-end.ensures c.loop-left-test.true (sym c.valid_slot.ensures ∙ c.if-valid_slot.true) (sym c.is_new.ensures ∙ c.if-is_new.false))
-
-pub returns-else-valid_slot : goal.returns-else-valid_slot
-returns-else-valid_slot c = let l = c.loop-left in let f = c.args.t.now in sym (l.invariant.1 ∙ slots-invalid f l.at l.left c.slot_end-end.ensures c.loop-left-test.true (sym c.valid_slot.ensures ∙ c.if-valid_slot.false))
+pub loop-k-preserved : goal.loop-k-preserved
+unfolding ◌and◌
+loop-k-preserved c = grind (arith, slots-step c.args.n c.loop-k.k c.loop-k.rest.now c.loop-k-test.true)
 
 pub returns : goal.returns
-returns c = let l = c.loop-left in let f = c.args.t.now in c.zeros_from.ensures ∙ sym (l.invariant.1 ∙ slots_end l.left (drop l.at f) c.loop-left-test.false)
+returns c = let l = c.loop-k in c.zeros_from.ensures ∙ sym (l.invariant ∙ slots_end c.args.n l.k l.rest.now c.loop-k-test.false)

@@ -1,15 +1,12 @@
-use Rattle.text.specs.Laws.Tests.{tests}
+use Rattle.std.proofs.Common.{arith}
+use Rattle.text.specs.Choice.{◌and◌}
 use Rattle.items.specs.Item.{taxiways_fit}
 use Rattle.items.proofs.taxiways_fit.Goals as goal
 
-pub returns-then-n-gt-MOST_TAXIWAYS : goal.returns-then-n-gt-MOST_TAXIWAYS
-unfolding taxiways_fit
-returns-then-n-gt-MOST_TAXIWAYS c = search tests
+pub returns-then-n-le-MOST_TAXIWAYS : goal.returns-then-n-le-MOST_TAXIWAYS
+unfolding taxiways_fit ◌and◌
+returns-then-n-le-MOST_TAXIWAYS c = grind arith
 
-pub returns-then-t-ne-TAXIWAY_BYTES : goal.returns-then-t-ne-TAXIWAY_BYTES
-unfolding taxiways_fit
-returns-then-t-ne-TAXIWAY_BYTES c = search tests
-
-pub returns : goal.returns
-unfolding taxiways_fit
-returns c = simp (← c.slots_fit.ensures) (search tests)
+pub returns-else-n-le-MOST_TAXIWAYS : goal.returns-else-n-le-MOST_TAXIWAYS
+unfolding taxiways_fit ◌and◌
+returns-else-n-le-MOST_TAXIWAYS c = grind arith

@@ -1,15 +1,12 @@
-use Rattle.text.specs.Laws.Tests.{tests}
+use Rattle.std.proofs.Common.{arith}
+use Rattle.text.specs.Choice.{◌and◌}
 use Rattle.items.specs.Item.{valid_item}
 use Rattle.items.proofs.valid_item.Goals as goal
 
 pub returns-then-taxiways_fit : goal.returns-then-taxiways_fit
-unfolding valid_item
-returns-then-taxiways_fit c = simp (← c.numbers_fit.ensures, ← c.taxiways_fit.ensures, ← c.name_fits.ensures) (search tests)
+unfolding valid_item ◌and◌
+returns-then-taxiways_fit c = grind arith
 
 pub returns-else-taxiways_fit : goal.returns-else-taxiways_fit
-unfolding valid_item
-returns-else-taxiways_fit c = simp (← c.numbers_fit.ensures, ← c.taxiways_fit.ensures) (search tests)
-
-pub returns-else-numbers_fit : goal.returns-else-numbers_fit
-unfolding valid_item
-returns-else-numbers_fit c = simp (← c.numbers_fit.ensures) (search tests)
+unfolding valid_item ◌and◌
+returns-else-taxiways_fit c = grind arith

@@ -1,13 +1,11 @@
-use mathlib.Core.Path.{sym}
-use lib.Seq.{length-take-le}
-use Rattle.radio.proofs.Numbers.{groups-within, groups-there}
+use Rattle.radio.proofs.Numbers.{put-one, put-two, put-three}
 use Rattle.radio.proofs.put_number.Goals as goal
 
-pub slice_bounds-bytes-end : goal.slice_bounds-bytes-end
-slice_bounds-bytes-end c = let g = c.groups_of-g in groups-within _ g.result g.ensures
+pub returns-then-x-lt-GROUP : goal.returns-then-x-lt-GROUP
+returns-then-x-lt-GROUP c = rw (put-one c.args.x c.if-x-lt-GROUP.true) c.put.ensures
 
-pub slice_bounds-put-end : goal.slice_bounds-put-end
-slice_bounds-put-end c = let g = c.groups_of-g in sym (length-take-le g.result.size g.result.bytes (groups-within _ g.result g.ensures))
+pub returns-then-y-lt-GROUP : goal.returns-then-y-lt-GROUP
+returns-then-y-lt-GROUP c = rw (put-two c.args.x c.if-x-lt-GROUP.false c.if-y-lt-GROUP.true) c.put-then-y-lt-GROUP.ensures
 
 pub returns : goal.returns
-returns c = let g = c.groups_of-g in rw (← groups-there _ g.result g.ensures) c.put.ensures
+returns c = rw (put-three c.args.x c.if-x-lt-GROUP.false c.if-y-lt-GROUP.false) c.put-2.ensures

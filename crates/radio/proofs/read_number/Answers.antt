@@ -1,39 +1,30 @@
-use Rattle.text.specs.Laws.Tests.{tests}
-use Rattle.radio.proofs.Numbers.{number_found, held-is}
+use Rattle.std.proofs.Common.{arith}
+use Rattle.radio.proofs.Numbers.{one-group, two-groups, three-groups, zero-second, zero-third, no_last, cut-at}
 use Rattle.radio.proofs.read_number.Goals as goal
 
-pub returns-then-s-eq0 : goal.returns-then-s-eq0
-unfolding number_found
-returns-then-s-eq0 c = held-is _ _ (search tests)
+pub returns-in-len1-up : goal.returns-in-len1-up
+returns-in-len1-up c = one-group c.args.s.now c.in-len1-up.len_at_least c.if-a-lt-MORE.true c.from.ensures
 
-pub returns-then-a-lt-MORE : goal.returns-then-a-lt-MORE
-unfolding number_found
-returns-then-a-lt-MORE c = held-is _ _ (simp (← c.group-a.ensures.0) (search tests))
+pub returns-in-len2-up : goal.returns-in-len2-up
+returns-in-len2-up c = zero-second c.args.s.now c.in-len2-up.len_at_least c.if-a-lt-MORE.false c.if-b-eq0.true
 
-pub returns-then-s-eq1 : goal.returns-then-s-eq1
-unfolding number_found
-returns-then-s-eq1 c = held-is _ _ (simp (← c.group-a.ensures.0) (search tests))
+pub returns-in-len2-up-2 : goal.returns-in-len2-up-2
+returns-in-len2-up-2 c = two-groups c.args.s.now (omega arith) c.if-a-lt-MORE.false (omega arith) c.if-b-lt-MORE.true (omega arith)
 
-pub returns-then-b-eq0 : goal.returns-then-b-eq0
-unfolding number_found
-returns-then-b-eq0 c = held-is _ _ (simp (← c.group-a.ensures.0, ← c.group-b.ensures.0) (search tests depth 9))
+pub returns-in-len3-up : goal.returns-in-len3-up
+returns-in-len3-up c = zero-third c.args.s.now c.in-len3-up.len_at_least c.if-a-lt-MORE.false c.if-b-lt-MORE.false c.if-c-eq0.true
 
-pub returns-then-b-lt-MORE : goal.returns-then-b-lt-MORE
-unfolding number_found
-returns-then-b-lt-MORE c = held-is _ _ (simp (← c.group-a.ensures.0, ← c.group-b.ensures.0) (search tests depth 9))
+pub returns-in-len3-up-2 : goal.returns-in-len3-up-2
+returns-in-len3-up-2 c = three-groups c.args.s.now (omega arith) c.if-a-lt-MORE.false c.if-b-lt-MORE.false (omega arith) c.if-c-lt-MORE.true (omega arith)
 
-pub returns-then-s-eq2 : goal.returns-then-s-eq2
-unfolding number_found
-returns-then-s-eq2 c = held-is _ _ (simp (← c.group-a.ensures.0, ← c.group-b.ensures.0) (search tests depth 9))
+pub returns-in-len3-up-3 : goal.returns-in-len3-up-3
+returns-in-len3-up-3 c = no_last c.args.s.now (omega arith) c.if-a-lt-MORE.false c.if-b-lt-MORE.false c.if-c-lt-MORE.false
 
-pub returns-then-c-eq0 : goal.returns-then-c-eq0
-unfolding number_found
-returns-then-c-eq0 c = held-is _ _ (simp (← c.group-a.ensures.0, ← c.group-b.ensures.0, ← c.group-c.ensures.0) (search tests depth 9))
+pub returns-in_default : goal.returns-in_default
+returns-in_default c = cut-at c.args.s.now (omega arith) (λ h. omega arith) (λ h. omega arith)
 
-pub returns-then-c-lt-MORE : goal.returns-then-c-lt-MORE
-unfolding number_found
-returns-then-c-lt-MORE c = held-is _ _ (simp (← c.group-a.ensures.0, ← c.group-b.ensures.0, ← c.group-c.ensures.0) (search tests depth 9))
+pub returns-in_default-2 : goal.returns-in_default-2
+returns-in_default-2 c = cut-at c.args.s.now (omega arith) (λ h. omega arith) (λ h. omega arith)
 
-pub returns : goal.returns
-unfolding number_found
-returns c = held-is _ _ (simp (← c.group-a.ensures.0, ← c.group-b.ensures.0, ← c.group-c.ensures.0) (search tests depth 9))
+pub returns-in_default-4 : goal.returns-in_default-4
+returns-in_default-4 c = cut-at c.args.s.now (omega arith) (λ h. omega arith) (λ h. omega arith)

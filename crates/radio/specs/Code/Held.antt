@@ -1,15 +1,17 @@
--- How the code's answers stand for readings.
-use Rattle.std.specs.Prelude.{ℕ, ◌≤◌, ◌≡◌, List, Bool, true, cond, eqb, ltb, length, drop}
-use Rattle.text.specs.Arrays.{pad}
+-- How the code's answers stand for readings and writings.
+use Rattle.std.specs.Prelude.{ℕ, ◌≤◌, ◌≡◌, List, Bool, true, ltb, Result, Ok, Err, length, drop}
+use Rattle.text.specs.declared.refusal.Refusal.{Refusal}
+use Rattle.text.specs.Refusals.{number}
 use Rattle.row.specs.declared.Row.{Row}
-use Rattle.row.specs.Row.{blank_row}
+use Rattle.body.specs.declared.Rows.{Rows}
 use Rattle.radio.specs.declared.Field.{Field}
 use Rattle.radio.specs.declared.Field.TheVariants.{Minutes, Runway, Code, Coverage, Depth, Description, Width}
-use Rattle.radio.specs.declared.NumberFound.{NumberFound}
+use Rattle.text.specs.declared.Found.{Found}
+use Rattle.radio.specs.declared.Radio.{Radio}
 use Rattle.radio.specs.declared.RowFound.{RowFound}
-use Rattle.radio.specs.declared.Groups.{Groups}
 use Rattle.radio.specs.Outcome.{Outcome, refuse, taken}
-use Rattle.radio.specs.Number.{Part, part, number_bytes}
+use Rattle.radio.specs.Number.{Part, part}
+use Rattle.radio.specs.Answers.{refused}
 
 -- the field is one of the row, or of one of its three thirds
 abbrev pub of_row : Field → Bool
@@ -21,27 +23,30 @@ of_row (Depth i) = ltb i 3
 of_row (Description i) = ltb i 3
 of_row Width = true
 
--- no number, and no row
-abbrev pub no_number : ℕ → NumberFound
-no_number n = record { refusal = n; value = 0; next = 0 }
+-- the reading of the front of m that an answer stands for
+abbrev pub given : {A R : Type 0} → (R → A) → (R → ℕ) → List ℕ → Result R Refusal → Outcome (Part A)
+given value next m (Ok r) = taken (part (value r) (drop (next r) m))
+given value next m (Err e) = refuse (number e)
 
-abbrev pub no_row : ℕ → RowFound
-no_row n = record { refusal = n; row = blank_row; next = 0 }
+-- the place behind what was read
+abbrev pub behind : {R : Type 0} → (R → ℕ) → Result R Refusal → ℕ
+behind next (Ok r) = next r
+behind next (Err e) = 0
 
--- a refusal, a value and the place behind it are the reading o of the front of m; refused, the value is z and the place 0
-pub record Held {A : Type 0} (z : A) (m : List ℕ) (o : Outcome (Part A)) (refusal : ℕ) (value : A) (next : ℕ) : Type 0 where
-  pub within : next ≤ length m
-  pub says : o ≡ cond (eqb refusal 0) (taken (part value (drop next m))) (refuse refusal)
-  pub blank : (refusal ≡ 0 → ⊥) → (value ≡ z) × (next ≡ 0)
+-- the answer r is the reading o of the front of m: `value` tells what was read, and `next` the place behind it
+pub record Held {A R : Type 0} (value : R → A) (next : R → ℕ) (m : List ℕ) (o : Outcome (Part A)) (r : Result R Refusal) : Type 0 where
+  pub within : behind next r ≤ length m
+  pub says : o ≡ given value next m r
 
--- the answer of a number
-abbrev pub HeldNumber : List ℕ → Outcome (Part ℕ) → NumberFound → Type 0
-HeldNumber m o r = Held 0 m o r.refusal r.value r.next
+-- of a number
+abbrev pub HeldNumber : List ℕ → Outcome (Part ℕ) → Result Found Refusal → Type 0
+HeldNumber = Held (λ f. f.value) (λ f. f.next)
 
 -- and of a row
-abbrev pub HeldRow : List ℕ → Outcome (Part Row) → RowFound → Type 0
-HeldRow m o r = Held blank_row m o r.refusal r.row r.next
+abbrev pub HeldRow : List ℕ → Outcome (Part Row) → Result RowFound Refusal → Type 0
+HeldRow = Held (λ f. f.row) (λ f. f.next)
 
--- the groups of a number, zeros behind them
-abbrev pub groups_of : ℕ → Groups
-groups_of x = record { size = length (number_bytes x); bytes = pad 3 0 (number_bytes x) }
+-- the answer to a record that rows or a refusal stand for
+abbrev pub as_radio : Result Rows Refusal → Radio
+as_radio (Ok rows) = record { refusal = 0; rows = rows }
+as_radio (Err e) = refused (number e)

@@ -1,7 +1,7 @@
 -- A list that has a record is what a notice may have as its rows, held in an array.
 use Rattle.std.specs.Prelude.{ℕ, ◌≡◌, refl, List, [], ◌∷◌, true, false, leb, length}
 use Rattle.std.proofs.Common.{leb-true, le-leb, arith}
-use Rattle.text.specs.Choice.{all, ◌and◌, is_empty}
+use Rattle.text.specs.Choice.{all, is_empty}
 use Rattle.radio.specs.Outcome.{taken}
 use Rattle.text.specs.Laws.Base.{and-1, and-2, and_i, true-false}
 use Rattle.row.specs.declared.Row.{Row}

@@ -1,44 +1,30 @@
 -- The inner answers leave no choice.
-use Rattle.std.specs.Prelude.{ℕ, ◌≡◌, refl, List, cond, Bool, true, false, eqb, drop}
-use Rattle.std.proofs.Common.{sym, ap, ◌∙◌, eqb-true}
-use Rattle.std.proofs.lemmas.Bool.{eqb-false}
+use Rattle.std.specs.Prelude.{ℕ, ◌≡◌, List, Result, Ok, Err, drop}
+use Rattle.std.proofs.Common.{sym, ap, ◌∙◌, refl}
+use Rattle.text.specs.declared.refusal.Refusal.{Refusal}
 use Rattle.text.specs.Laws.Held.{one_place}
+use Rattle.text.specs.Laws.Refusals.{number-one}
 use Rattle.row.specs.declared.Row.{Row}
-use Rattle.radio.specs.declared.NumberFound.{NumberFound}
+use Rattle.text.specs.declared.Found.{Found}
 use Rattle.radio.specs.declared.RowFound.{RowFound}
-use Rattle.radio.specs.Outcome.{Outcome, refuse, taken}
-use Rattle.radio.specs.Number.{Part, part}
+use Rattle.radio.specs.Outcome.{Outcome}
+use Rattle.radio.specs.Number.{Part}
 use Rattle.radio.specs.Code.Held.{Held, HeldNumber, HeldRow}
-use Rattle.radio.specs.Laws.Outcome.{no-refuse}
+use Rattle.radio.specs.Laws.Outcome.{no-refuse, took, refused-by}
 
--- what two answers to one reading have in common
-record Same {A : Type 0} (n k : ℕ) (x y : A) (i j : ℕ) : Type 0 where
-  numbers : n ≡ k
-  values : x ≡ y
-  places : i ≡ j
+held_one : {A R : Type 0} (value : R → A) (next : R → ℕ) {m : List ℕ} {o : Outcome (Part A)}
+    → ((r s : R) → value r ≡ value s → next r ≡ next s → r ≡ s) → {r s : Result R Refusal} → Held value next m o r → Held value next m o s → r ≡ s
+held_one value next made {r = Err e} {s = Err f} p q = ap Err (number-one e f (refused-by (sym p.says ∙ q.says)))
+held_one value next made {r = Err e} {s = Ok s} p q = no-refuse (sym p.says ∙ q.says)
+held_one value next made {r = Ok r} {s = Err f} p q = no-refuse (sym q.says ∙ p.says)
+held_one {A} value next {m = m} made {r = Ok r} {s = Ok s} p q =
+    let e = sym p.says ∙ q.says in
+    let v = took (λ (a : Part A). value r ≡ a.value) e refl in
+    let d = took (λ (a : Part A). drop (next r) m ≡ a.rest) e refl in
+    ap Ok (made r s v (one_place m (next r) (next s) p.within q.within d))
 
-held_one : {A : Type 0} {z : A} {m : List ℕ} {o : Outcome (Part A)} {n k : ℕ} {x y : A} {i j : ℕ} → Held z m o n x i → Held z m o k y j → Same n k x y i j
-held_one {A} {z} {m} {o} {n} {k} {x} {y} {i} {j} p q = go (eqb n 0) refl (eqb k 0) refl (sym p.says ∙ q.says)
-  where
-    go : (s : Bool) → eqb n 0 ≡ s → (t : Bool) → eqb k 0 ≡ t
-        → cond s (taken (part x (drop i m))) (refuse n) ≡ cond t (taken (part y (drop j m))) (refuse k) → Same n k x y i j
-    go true e true f h =
-        let w : part x (drop i m) ≡ part y (drop j m) = cc in
-        record {
-          numbers = eqb-true n 0 e ∙ sym (eqb-true k 0 f);
-          values = ap (λ a. a.value) w;
-          places = one_place m i j p.within q.within (ap (λ a. a.rest) w);
-        }
-    go true e false f h = no-refuse (sym h)
-    go false e true f h = no-refuse h
-    go false e false f h =
-        let a = p.blank (eqb-false n 0 e) in
-        let b = q.blank (eqb-false k 0 f) in
-        let d : n ≡ k = cc in
-        record { numbers = d; values = a.0 ∙ sym b.0; places = a.1 ∙ sym b.1 }
+pub number_one : {m : List ℕ} {o : Outcome (Part ℕ)} {r s : Result Found Refusal} → HeldNumber m o r → HeldNumber m o s → r ≡ s
+number_one p q = held_one (λ f. f.value) (λ f. f.next) (λ a b v n. λ i. record { value = v i; next = n i }) p q
 
-pub number-one : {m : List ℕ} {o : Outcome (Part ℕ)} (r s : NumberFound) → HeldNumber m o r → HeldNumber m o s → r ≡ s
-number-one r s p q = let h = held_one p q in λ i. record { refusal = h.numbers i; value = h.values i; next = h.places i }
-
-pub row_one : {m : List ℕ} {o : Outcome (Part Row)} (r s : RowFound) → HeldRow m o r → HeldRow m o s → r ≡ s
-row_one r s p q = let h = held_one p q in λ i. record { refusal = h.numbers i; row = h.values i; next = h.places i }
+pub row_one : {m : List ℕ} {o : Outcome (Part Row)} {r s : Result RowFound Refusal} → HeldRow m o r → HeldRow m o s → r ≡ s
+row_one p q = held_one (λ f. f.row) (λ f. f.next) (λ a b v n. λ i. record { row = v i; next = n i }) p q

@@ -25,3 +25,6 @@ need-took n false e = no-refuse e
 pub need-refused : {A : Type 0} (n k : ℕ) (t : Bool) {o : Outcome A} → need n t o ≡ refuse k → (n ≡ k → ⊥) → (t ≡ true) × (o ≡ refuse k)
 need-refused n k true e h = (refl, e)
 need-refused n k false e h = let z : n ≡ k = cc in absurd (h z)
+
+pub refused-by : {A : Type 0} {n k : ℕ} → ◌≡◌ {A = Outcome A} (refuse n) (refuse k) → n ≡ k
+refused-by e = cc

@@ -1,5 +1,5 @@
 -- A row that is filled group by group, as the code reads it.
-use Rattle.std.specs.Prelude.{ℕ, ◌<◌, ◌≤◌, ◌≡◌, List, [], ◌∷◌, cond, Bool, true, Result, Ok, Err, IfErr, length, drop}
+use Rattle.std.specs.Prelude.{ℕ, ◌<◌, ◌≤◌, ◌≡◌, List, [], ◌∷◌, cond, Bool, true, Result, Ok, Err, IfErr, MatchResult, length, drop}
 use Rattle.text.specs.Choice.{all, is_empty}
 use Rattle.text.specs.Read.{Got, got, skip, read_seq, read_if}
 use Rattle.text.specs.Out.{Out, refuse, taken, next, fit, demand}
@@ -7,6 +7,7 @@ use Rattle.text.specs.declared.Found.{Found}
 use Rattle.text.specs.Code.Held.{Reached}
 use Rattle.text.specs.declared.refusal.Refusal.{Refusal}
 use Rattle.text.specs.declared.refusal.Fault.{Fault}
+use Rattle.text.specs.Code.Faults.{Refused}
 use Rattle.text.specs.Refusals.{no_row, wrong_runway, wrong_codes, wrong_coverage_or_depth, wrong_descriptions, wrong_width, number}
 use Rattle.surface.specs.Third.{is_code, valid_coverage, valid_depth}
 use Rattle.surface.specs.declared.Third.{Third}
@@ -16,7 +17,7 @@ use Rattle.thirds.specs.declared.Group.TheVariants.{Codes, Coverages, Depths, De
 use Rattle.row.specs.Row.{third_of, is_short}
 use Rattle.row.specs.declared.Row.{Row}
 use Rattle.rowtext.specs.Text.{numbers_of}
-use Rattle.rowtext.specs.Reading.{Rest, all_nr, make_thirds, read_alone, each, may_cover, may_lie, read_width, short, group}
+use Rattle.rowtext.specs.Reading.{Rest, all_nr, make_thirds, read_alone, each, may_cover, may_lie, read_width, short, group, find_row}
 use Rattle.rowtext.specs.Reading.{time_group, runway_group, code_group, coverage_group, depth_group, description_group, width_group}
 use Rattle.rowtext.specs.declared.Part.{Part}
 
@@ -121,6 +122,10 @@ pub record Filled (fill : Row → List ℕ → Out (Row × List ℕ)) (m : List 
 pub record Judged (ts : List Third) (m m₄ : List ℕ) (a : Result (Unit {0}) Fault) : Type 0 where
   pub within : IfErr a (λ f. f.place ≤ length m)
   pub says : judged ts m m₄ (taken (tt {0})) ≡ answered (λ _. tt {0}) m a
+
+-- the answer r to the reading of a whole line
+abbrev pub RowFound : List ℕ → Result Row Fault → Type 0
+RowFound line r = MatchResult r (λ row. find_row line ≡ taken row) (Refused line (find_row line))
 
 -- the fault f of the part that k should be, an end of m: at its first byte
 pub record FaultAt (m k : List ℕ) (refusal : Refusal) (f : Fault) : Type 0 where

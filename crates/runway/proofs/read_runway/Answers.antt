@@ -9,4 +9,4 @@ pub overflow_cast-result : goal.overflow_cast-result
 overflow_cast-result c = omega (arith, two-low (drop c.args.i c.args.s.now) c.in_ok-n.ensures.says)
 
 pub returns : goal.returns
-returns c = record { within = c.side_at-d.ensures.within; says = rw (c.in_ok-n.ensures.says, c.side_at-d.ensures.says) }
+returns c = record { within = c.side_at-side.ensures.within; says = rw (c.in_ok-n.ensures.says, c.side_at-side.ensures.says) }

@@ -1,19 +1,15 @@
-use mathlib.Core.Path.{sym, ◌∙◌}
-use Rattle.text.specs.Names.{is_name, in_class, run}
+use Rattle.std.proofs.Common.{sym}
+use Rattle.text.specs.Names.{is_name, run}
 use Rattle.text.specs.Piece.{spell}
 use Rattle.text.specs.Laws.Put.{more}
-use Rattle.text.specs.Laws.Runs.{one-counted}
 use Rattle.wording.proofs.Writing.{named-apron}
 use Rattle.wording.proofs.put_poor_apron.Goals as goal
 
-pub returns-then-counted : goal.returns-then-counted
-unfolding in_class
-returns-then-counted c =
-    let n = c.args.i.name in
-    rw (sym (one-counted is_name n) ∙ sym c.counted.ensures ∙ c.if-counted.true, named-apron (run is_name n))
-    (more c.put-at.ensures (more c.put-at-then-counted.ensures (more c.put_name-at.ensures (more c.put-at-then-counted-2.ensures c.put.ensures))))
+pub returns-then-is_named : goal.returns-then-is_named
+returns-then-is_named c =
+    rw (sym c.if-is_named.ensures, named-apron (run is_name c.args.i.name))
+    (more c.put-at.ensures (more c.put-at-then-is_named.ensures (more c.put_name-at.ensures (more c.put-at-then-is_named-2.ensures c.put.ensures))))
 
-pub returns : goal.returns
-unfolding in_class spell
-returns c =
-    rw (sym (one-counted is_name c.args.i.name) ∙ sym c.counted.ensures ∙ c.if-counted.false) c.put-2.ensures
+pub returns-else-is_named : goal.returns-else-is_named
+unfolding spell
+returns-else-is_named c = rw (sym c.if-is_named.ensures) c.put-else-is_named.ensures
