@@ -7,7 +7,7 @@ ghost use Rattle.text.specs.Put.{Put};
 ghost use Rattle.text.specs.Code.Writes.{as_written};
 ghost use Rattle.runway.specs.Time.{real_time};
 ghost use Rattle.row.specs.Row.{valid_row};
-ghost use Rattle.body.specs.Rows.{most_rows, rows_of};
+ghost use Rattle.body.specs.Rows.{most_rows};
 ghost use Rattle.radio.specs.Number.{number_bytes, read_number};
 ghost use Rattle.radio.specs.Minutes.{year_minutes, days_in, date_of, minutes_of, time_of};
 ghost use Rattle.radio.specs.Fields.{number_of, may_be, fill};
