@@ -354,6 +354,7 @@ impl Sendable<'_> {
     }
 
     // The record fits into so many bytes: the longest is known, and only a shorter buffer is measured against the record.
+    // stays: tried; a closure that captures this list tells `fill::has_room` nothing of what it puts
     fn has_room(&self, room: usize) -> bool
         ensures { result ≡ leb (length (radio_record self.now.rows.now)) room }
     {
