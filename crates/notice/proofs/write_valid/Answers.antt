@@ -1,9 +1,9 @@
+use Rattle.std.proofs.Common.{sym}
 use Rattle.notice.specs.Laws.Text.{wrote-text, wrote-short}
-use mathlib.Core.Path.{sym, ◌∙◌}
 use Rattle.notice.proofs.write_valid.Goals as goal
 
-pub returns-then-has_room : goal.returns-then-has_room
-returns-then-has_room c = wrote-text c.args.time c.args.r c.requires (sym c.has_room.ensures ∙ c.if-has_room.true) c.put_notice-length.ensures
+pub returns-then-not-has_room : goal.returns-then-not-has_room
+returns-then-not-has_room c = rw c.unwritten.ensures (wrote-short c.args.time c.args.r c.requires (sym c.if-not-has_room.ensures))
 
 pub returns : goal.returns
-returns c = wrote-short c.args.time c.args.r c.requires (sym c.has_room.ensures ∙ c.if-has_room.false)
+returns c = wrote-text c.args.time c.args.r c.requires (sym c.if-not-has_room.ensures) c.put_notice.ensures
