@@ -25,13 +25,13 @@ module _ (ws : List Runway) (i : ℕ) (v : Runway) where
   rise_end h = rw (drop_of_length-le ws h)
 
   module _ (h : i < length ws) where
-    pub rise-on : rises v here ≡ true → rising v (drop i ws) ≡ rising here (drop (i + 1) ws)
+    pub rise_on : rises v here ≡ true → rising v (drop i ws) ≡ rising here (drop (i + 1) ws)
     unfolding rising ◌and◌
-    rise-on e = rw (next_place blank_runway ws i h, e)
+    rise_on e = rw (next_place blank_runway ws i h, e)
 
-    pub rise-off : rises v here ≡ false → false ≡ rising v (drop i ws)
+    pub rise_off : rises v here ≡ false → false ≡ rising v (drop i ws)
     unfolding rising ◌and◌
-    rise-off e = rw (next_place blank_runway ws i h, e)
+    rise_off e = rw (next_place blank_runway ws i h, e)
 
 -- the first runway that the row names
 pub place-found : (r : Row) (ws : List Runway) {o : Option ℕ}
@@ -58,19 +58,19 @@ place-found r ws e = rw (e, ← first) (go (ltb (place_of r ws) (length ws)) ref
     go false h = let k = ltb-false _ _ h in let w = within ws in omega arith
 
 -- rows in their places, and zeros behind them
-pub fit-split : (ws : List Runway) (rs : List Row) → (list_all (λ p. fits_place p.0 p.1) (zip ws rs) and all is_blank_row (drop (length ws) rs)) ≡ fit_places ws rs
+pub fit_split : (ws : List Runway) (rs : List Row) → fit_places ws rs ≡ (list_all (λ p. fits_place p.0 p.1) (zip ws rs) and all is_blank_row (drop (length ws) rs))
 unfolding fit_places ◌and◌
-fit-split [] rs = refl
-fit-split (w ∷ ws) [] = refl
-fit-split (w ∷ ws) (r ∷ rs) = go (fits_place w r) _ _ (fit-split ws rs)
+fit_split [] rs = refl
+fit_split (w ∷ ws) [] = refl
+fit_split (w ∷ ws) (r ∷ rs) = go (fits_place w r) _ _ (fit_split ws rs)
   where
-    go : (t a b : Bool) {c : Bool} → (a and b) ≡ c → ((t && a) and b) ≡ (t and c)
+    go : (t a b : Bool) {c : Bool} → c ≡ (a and b) → (t and c) ≡ ((t && a) and b)
     go true a b e = e
     go false a b e = refl
 
 -- of an array of n places, those from i on
-pub rest-all : {A : Type 0} (n i : ℕ) (l : List A) → length l ≡ n → take (n - i) (drop i l) ≡ drop i l
-rest-all n i l e = take_all (n - i) (drop i l) (simp length-drop (omega arith))
+pub rest_all : {A : Type 0} (n i : ℕ) (l : List A) → length l ≡ n → take (n - i) (drop i l) ≡ drop i l
+rest_all n i l e = take_all (n - i) (drop i l) (simp length-drop (omega arith))
 
 -- what a place holds does not depend on what stands for a row outside
 pub row-there : (d : Row) (rs : List Row) (i : ℕ) → i < length rs → get_or rs i d ≡ get_or rs i blank_row

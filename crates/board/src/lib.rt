@@ -20,6 +20,7 @@ use scan::zeros_from;
 use text::refusal::Refusal;
 
 // Runways rise by number, and then by side.
+// stays: C interface
 #[repr(C)]
 #[derive(Clone, Copy, PartialEq, Eq, PartialOrd, Ord)]
 pub struct Runway {
@@ -29,6 +30,7 @@ pub struct Runway {
 }
 
 // Zeros in every place that is unused or unreported.
+// stays: C interface
 #[repr(C)]
 #[derive(Clone, Copy)]
 pub struct Board {
@@ -50,9 +52,11 @@ pub struct Sent {
 }
 
 // A refusal number, 0 for taken, and the board afterwards.
+// stays: C interface
 #[repr(C)]
 #[derive(Clone, Copy)]
 pub struct Answer {
+    // stays: C interface: 0, or the number of a refusal
     pub refusal: u8,
     pub board: Board,
 }
@@ -71,6 +75,7 @@ fn is_aerodrome(a: [u8; 4]) -> bool
     read_aerodrome(&a).is_some()
 }
 
+#[tactic(auto, using(text::specs::Laws::Tests::and_is), unfolding(crate::specs::Board::is_blank_runway))]
 fn is_blank_runway(w: Runway) -> bool
     ensures { result ≡ is_blank_runway w }
 {
@@ -78,12 +83,14 @@ fn is_blank_runway(w: Runway) -> bool
 }
 
 // A runway that may stand behind `v` in a list.
+#[tactic(auto, using(text::specs::Laws::Tests::and_is), unfolding(crate::specs::Board::rises, crate::specs::Board::comes_before))]
 fn rises(v: Runway, w: Runway) -> bool
     ensures { result ≡ rises v w }
 {
     valid_runway(HIGHEST_RUNWAY, w.number, w.side) && v < w
 }
 
+#[tactic(auto, using(crate::proofs::Places::rise_end, crate::proofs::Places::rise_on, crate::proofs::Places::rise_off))]
 fn all_rise(runways: &[Runway]) -> bool
     ensures { result ≡ rising blank_runway runways.now }
 {
@@ -103,10 +110,11 @@ fn all_blank(runways: &[Runway]) -> bool
     runways.iter().all(|&w| is_blank_runway(w))
 }
 
+#[tactic(auto, unfolding(crate::specs::Board::is_desk))]
 fn is_desk(desk: u32) -> bool
     ensures { result ≡ is_desk desk }
 {
-    desk == 1 || desk == 2
+    matches!(desk, 1 | 2)
 }
 
 fn all_desks(owners: &[u8]) -> bool
@@ -116,6 +124,7 @@ fn all_desks(owners: &[u8]) -> bool
 }
 
 // What opening takes: an aerodrome, 1 to 8 runways that rise, and a desk for each, with zeros behind them.
+#[tactic(auto, using(text::specs::Laws::Tests::and_is, crate::proofs::Places::rest_all), unfolding(crate::specs::Board::valid_list, crate::specs::Board::valid_owners, crate::specs::Board::valid_opening))]
 fn valid_opening(aerodrome: [u8; 4], count: u8, runways: [Runway; 8], owners: [u8; 8]) -> bool
     ensures { result ≡ valid_opening aerodrome count runways owners }
 {
@@ -129,6 +138,7 @@ fn valid_opening(aerodrome: [u8; 4], count: u8, runways: [Runway; 8], owners: [u
         && zeros_from(&owners, n)
 }
 
+#[tactic(auto, using(text::specs::Laws::Tests::and_is), unfolding(crate::specs::Board::names))]
 fn names(r: Row, w: Runway) -> bool
     ensures { result ≡ names r w }
 {
@@ -136,6 +146,7 @@ fn names(r: Row, w: Runway) -> bool
 }
 
 // A shown row is valid and stands in its own runway's place.
+#[tactic(auto, using(text::specs::Laws::Tests::and_is), unfolding(crate::specs::Board::fits_place))]
 fn fits_place(w: Runway, r: Row) -> bool
     ensures { result ≡ fits_place w r }
 {
@@ -156,6 +167,7 @@ fn all_unreported(rows: &[Row]) -> bool
 }
 
 // Each row shown stands in its own runway's place, and zeros in every place past the runways.
+#[tactic(auto, using(text::specs::Laws::Tests::and_is, crate::proofs::Places::fit_split, crate::proofs::Places::rest_all))]
 fn fit_places(runways: &[Runway], rows: &[Row]) -> bool
     requires { length runways.now ≤ length rows.now }
     ensures { result ≡ fit_places runways.now rows.now }
@@ -164,6 +176,7 @@ fn fit_places(runways: &[Runway], rows: &[Row]) -> bool
 }
 
 // Of a stored time and a row's the later; where none is stored, the row's.
+#[tactic(auto, unfolding(crate::specs::Report::newest))]
 fn newest(latest: u32, time: u32) -> u32
     ensures { result ≡ newest latest time }
 {
@@ -199,6 +212,7 @@ impl Board {
 }
 
 // Whether a board that is handed in keeps its rules.
+#[tactic(auto, using(text::specs::Laws::Tests::and_is), unfolding(crate::specs::Board::valid_places, crate::specs::Board::valid_board))]
 pub fn valid_board(b: Board) -> bool
     ensures { result ≡ valid_board b }
 {
@@ -232,6 +246,8 @@ pub fn refused_opening() -> Answer
 }
 
 // A board of an aerodrome and 1 to 8 rising runways with their owners, nothing reported; 17 and the blank board where they are none.
+// stays: C interface
+#[tactic(auto, unfolding(crate::specs::Board::opening))]
 pub fn open(aerodrome: [u8; 4], count: u8, runways: [Runway; 8], owners: [u8; 8]) -> Answer
     ensures { result ≡ opening aerodrome count runways owners }
 {
@@ -261,6 +277,7 @@ fn place_of(r: Row, runways: &[Runway]) -> Option<usize>
 }
 
 // Observed later than the row shown, if there is one.
+#[tactic(auto, unfolding(crate::specs::Report::is_news))]
 fn is_news(r: Row, shown: Row) -> bool
     ensures { result ≡ is_news r shown }
 {
@@ -268,6 +285,7 @@ fn is_news(r: Row, shown: Row) -> bool
 }
 
 // The place that a report is stored in, or the first thing that is wrong with it: 17, 23, 19, 18, 22, 20.
+#[tactic(auto, unfolding(crate::specs::Report::refusal))]
 fn place_taken(b: &Board, x: Sent) -> Result<usize, Refusal>
     ensures { MatchResult result
         (λ i. (refusal b.now x.desk x.row ≡ 0) × (i ≡ place_for b.now x.row))
@@ -295,6 +313,7 @@ fn place_taken(b: &Board, x: Sent) -> Result<usize, Refusal>
 }
 
 // The board with the report stored.
+#[tactic(auto, unfolding(crate::specs::Report::report))]
 fn after_report(b: Board, x: Sent) -> Result<Board, Refusal>
     ensures { MatchResult result (λ c. report b x.desk x.row ≡ answer 0 c) (λ e. report b x.desk x.row ≡ answer (number e) b) }
 {
@@ -319,6 +338,7 @@ pub fn report(b: Board, x: Sent) -> Answer
 }
 
 // The desk's step: the board is updated in its place, and the refusal number answered.
+// stays: document 01 names the thin function over `&mut Board`
 pub fn take_report(board: &mut Board, x: Sent) -> u8
     ensures { (board.new ≡ (report board.old x.desk x.row).board) × (result ≡ (report board.old x.desk x.row).refusal) }
 {

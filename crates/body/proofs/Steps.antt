@@ -1,5 +1,5 @@
 -- The rows read line by line: each line ends the reading, or is one row more.
-use Rattle.std.proofs.Common.{ℕ, suc, ◌+◌, ◌-◌, ◌<◌, ◌≤◌, ◌≡◌, refl, sym, ◌∙◌, ap, List, [], ◌∷◌, ◌++◌, cond, Bool, true, false, eqb, Ok, Err, length, take, drop, set, add-one, length-append, length-drop, length-take-le, drop_of_length-le, drop-drop, take-append-drop, ne_eqb, eq-eqb, arith}
+use Rattle.std.proofs.Common.{ℕ, suc, ◌+◌, ◌-◌, ◌<◌, ◌≤◌, ◌≡◌, refl, sym, ◌∙◌, ap, List, [], ◌∷◌, ◌++◌, cond, true, false, eqb, Ok, Err, length, take, drop, set, add-one, length-append, length-drop, length-take-le, drop_of_length-le, drop-drop, take-append-drop, ne_eqb, eq-eqb, arith}
 use Rattle.std.proofs.lemmas.List.{drop-append-le}
 use Rattle.text.specs.declared.Line.{Line}
 use Rattle.text.specs.declared.refusal.Fault.{Fault}

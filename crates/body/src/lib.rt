@@ -5,7 +5,7 @@
 
 ghost use Rattle.std.specs.Prelude.{◌≡◌, [], map};
 ghost use Rattle.text.specs.Choice.{all};
-ghost use Rattle.text.specs.Lines.{line_text, under};
+ghost use Rattle.text.specs.Lines.{under};
 ghost use Rattle.text.specs.Put.{Put};
 ghost use Rattle.row.specs.Row.{valid_row, is_blank_row};
 ghost use Rattle.rowtext.specs.Text.{row_pieces};
@@ -18,7 +18,7 @@ use rowtext::{find_row, put_any_row};
 use runway::is_later;
 use scan::spaces;
 use text::refusal::{Fault, Refusal};
-use text::{first_line, is_closed};
+use text::{first_line, is_closed, line_text};
 
 // 1 to 8 rows, zeros past the count.
 #[repr(C)]
@@ -42,15 +42,11 @@ pub const MOST_ROWS: u8 = 8;
 const TIME_SIZE: usize = 8;
 
 impl Rows {
-    // The rows that count; the array is all that a wrong count can show.
+    // The rows up to the count; of a count above eight, all eight.
     pub fn shown(&self) -> &[Row]
         ensures { result.now ≡ rows_of self.now }
     {
-        if self.count <= MOST_ROWS {
-            &self.rows[..self.count as usize]
-        } else {
-            &self.rows
-        }
+        &self.rows[..self.count.min(MOST_ROWS) as usize]
     }
 }
 
@@ -85,6 +81,7 @@ fn all_blank(rows: &[Row]) -> bool
 }
 
 // 1 to 8 valid rows, no runway twice, zeros past the count.
+#[tactic(auto, using(text::specs::Laws::Tests::and_is, crate::proofs::Loops::rest_all), unfolding(crate::specs::Rows::valid_rows))]
 pub fn valid_rows(r: Rows) -> bool
     ensures { result ≡ valid_rows r }
 {
@@ -96,6 +93,7 @@ pub fn valid_rows(r: Rows) -> bool
 }
 
 // Of two times the later.
+#[tactic(auto, unfolding(crate::specs::Rows::latest_of))]
 pub fn later_of(t: u32, s: u32) -> u32
     ensures { result ≡ latest_of t s }
 {
@@ -109,17 +107,6 @@ pub fn latest_time(r: Rows) -> u32
     match r.shown() {
         [] => 0,
         [first, rest @ ..] => rest.iter().fold(first.time, |t, s| later_of(t, s.time)),
-    }
-}
-
-// A line without the `)` that closes it.
-fn line_text(line: &[u8]) -> &[u8]
-    ensures { result.now ≡ line_text line.now }
-{
-    if is_closed(line) {
-        &line[..line.len() - 1]
-    } else {
-        line
     }
 }
 

@@ -35,6 +35,7 @@ pub struct Record {
 #[repr(C)]
 #[derive(Clone, Copy)]
 pub struct Reading {
+    // stays: C interface: 0, or the number of a refusal
     pub refusal: u8,
     pub place: usize,
     pub record: Record,

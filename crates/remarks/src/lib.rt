@@ -17,7 +17,7 @@ use awareness::read_awareness;
 use fill::{line_under, put, told_behind};
 use items::{Items, Language, blank_item, put_language, valid_language};
 use text::refusal::{Fault, Refusal};
-use text::{first_line, is_closed};
+use text::{first_line, is_closed, line_text};
 use wording::put_awareness;
 
 // Neither items nor plain language.
@@ -56,17 +56,6 @@ pub fn put_remarks(out: &mut [u8], at: usize, items: Items, language: Language) 
 pub struct Remarks {
     pub items: Items,
     pub language: Language,
-}
-
-// A line without the `)` that closes it.
-fn line_text(line: &[u8]) -> &[u8]
-    ensures { result.now ≡ line_text line.now }
-{
-    if is_closed(line) {
-        &line[..line.len() - 1]
-    } else {
-        line
-    }
 }
 
 fn no_language() -> Language

@@ -7,18 +7,6 @@ use Rattle.board.proofs.place_taken.Goals as goal
 pub used-requires : goal.used-requires
 used-requires c = let f = rules c.args.b.now (sym c.if-not-valid_board.ensures) in f.few
 
-pub returns-then-not-valid_board : goal.returns-then-not-valid_board
-unfolding refusal
-returns-then-not-valid_board c = grind arith
-
-pub returns-then-not-is_desk : goal.returns-then-not-is_desk
-unfolding refusal
-returns-then-not-is_desk c = grind arith
-
-pub returns-then-not-valid_row : goal.returns-then-not-valid_row
-unfolding refusal
-returns-then-not-valid_row c = grind arith
-
 pub returns-in_default : goal.returns-in_default
 unfolding refusal
 returns-in_default c =

@@ -1,6 +1,4 @@
 use Rattle.std.proofs.Common.{arith, length-take, sym, ◌∙◌}
-use Rattle.text.specs.Choice.{◌and◌}
-use Rattle.board.specs.Board.{valid_places, valid_board, runways_of}
 use Rattle.board.specs.Laws.Rules.{opening-few, goods}
 use Rattle.board.proofs.valid_board.Goals as goal
 use Rattle.board.proofs.valid_board.Goals.{then-valid_opening, else-valid_opening}
@@ -14,14 +12,6 @@ fit_places-requires c = rw (c.used.ensures, length-take) (omega arith)
 pub latest_shown-requires : goal.latest_shown-requires
 latest_shown-requires c =
     elim c.if-valid_opening.branch [
-      then-valid_opening w ↦ goods _ c.args.b.rows (sym w.fit_places.ensures ∙ sym w.value-is ∙ c.if-fit_places.true)
-    | else-valid_opening w ↦ absurd (cc)
+      | then-valid_opening w ↦ goods _ c.args.b.rows (sym w.fit_places.ensures ∙ sym w.value-is ∙ c.if-fit_places.true)
+      | else-valid_opening w ↦ absurd (cc)
     ]
-
-pub returns-then-fit_places : goal.returns-then-fit_places
-unfolding valid_board valid_places ◌and◌
-returns-then-fit_places c = grind arith
-
-pub returns-else-fit_places : goal.returns-else-fit_places
-unfolding valid_board valid_places ◌and◌
-returns-else-fit_places c = grind arith

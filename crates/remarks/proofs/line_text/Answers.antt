@@ -1,9 +1,0 @@
-use Rattle.std.proofs.Common.{◌∙◌, sym, arith}
-use Rattle.text.specs.Laws.Lines.{closed_some, front-part}
-use Rattle.remarks.proofs.line_text.Goals as goal
-
-pub slice_bounds-result-count : goal.slice_bounds-result-count
-slice_bounds-result-count c = omega (arith, closed_some c.args.line.now (sym c.is_closed.ensures ∙ c.if-is_closed.true))
-
-pub returns-then-is_closed : goal.returns-then-is_closed
-returns-then-is_closed c = rw (sym c.is_closed.ensures ∙ c.if-is_closed.true) (sym (front-part c.args.line.now))
