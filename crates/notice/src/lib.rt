@@ -74,7 +74,7 @@ pub fn read(message: &[u8]) -> Reading
 {
     match read_record(message) {
         Ok(r) => accepted(r),
-        Err(fault) => refused(fault),
+        Err(fault) => refused(fault.refusal.number(), fault.place),
     }
 }
 
