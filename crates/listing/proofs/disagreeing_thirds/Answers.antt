@@ -1,5 +1,4 @@
-use Rattle.std.proofs.Common.{◌≡◌, ◌+◌, ◌*◌, ◌≤◌, ◌∙◌, sym, ap, rules, arith, length, length-take, take_all}
-use Rattle.body.specs.Rows.{rows_of}
+use Rattle.std.proofs.Common.{◌≡◌, ◌∙◌, ap, rules, arith, length, length-take, take_all}
 use Rattle.listing.specs.Listing.{disagreeing_thirds}
 use Rattle.listing.proofs.Thirds.{thirds-next}
 use Rattle.listing.proofs.disagreeing_thirds.Goals as goal
@@ -18,8 +17,7 @@ overflow_add-n c =
 pub loop-row-preserved : goal.loop-row-preserved
 loop-row-preserved c =
     let l = c.loop-row in
-    let e = thirds-next c.shown-row-items.result.now l.row-index _ c.loop-row-test.true in
-    (rw (e, l.invariant.0, c.disagreements-n.ensures.0), omega (arith, l.invariant.1, c.disagreements-n.ensures.1))
+    (thirds-next c.shown-row-items.result.now l.row-index _ c.loop-row-test.true l.invariant.0 c.disagreements-n.ensures.0, omega (arith, l.invariant.1, c.disagreements-n.ensures.1))
 
 pub returns : goal.returns
 returns c =
