@@ -2,18 +2,17 @@
 
 #![tactic(auto)]
 
-ghost use Rattle.std.specs.Prelude.{◌≡◌, ◌+◌, ◌-◌, ◌≤◌, true, leb, length, drop};
+ghost use Rattle.std.specs.Prelude.{◌≡◌, ◌+◌, ◌-◌, ◌≤◌, true, length, drop};
 ghost use Rattle.text.specs.Lines.{line_size, lines_size};
-ghost use Rattle.text.specs.Refusals.{number};
 ghost use Rattle.notice.specs.Same.{SaysSame, same_record};
 ghost use Rattle.record.specs.Record.{valid_record};
-ghost use Rattle.record.specs.Notice.{notice_text_at};
-ghost use Rattle.notice.specs.Writing.{Wrote, WroteAt, unwritten};
+ghost use Rattle.notice.specs.Writing.{Wrote, WroteAt};
 ghost use Rattle.notice.specs.Rewriting.{Rewrote};
 ghost use Rattle.notice.specs.Reading.{reading};
 ghost use Rattle.notice.specs.Code.Below.{Opened, DisagreesAt, answer};
 
 use body::{latest_time, read_rows};
+use fill::has_room;
 use front::read_front;
 use record::{Reading, Record, accepted, mismatch, put_notice, record_of, refused, valid_record};
 use remarks::read_remarks;
@@ -81,36 +80,15 @@ pub fn read(message: &[u8]) -> Reading
 
 // ---- Writing
 
-// The text fits into so many bytes: the longest is known, and only a shorter buffer is measured against the text.
-fn has_room(r: Record, time: u32, room: usize) -> bool
-    requires { valid_record r ≡ true }
-    ensures { result ≡ leb (length (notice_text_at time r)) room }
-{
-    LONGEST <= room || put_notice(&mut [0; 1], r, time) <= room
-}
-
-// Nothing was written, for this reason.
-pub fn unwritten(refusal: Refusal) -> Written
-    ensures { result ≡ unwritten (number refusal) }
-{
-    Written {
-        refusal: refusal.number(),
-        length: 0,
-    }
-}
-
 // Writes the text of a valid record: 14 where the buffer is too short for it.
 fn write_valid(r: Record, time: u32, buffer: &mut [u8]) -> Written
     requires { valid_record r ≡ true }
     ensures { WroteAt time r buffer.old buffer.new result }
 {
-    if !has_room(r, time, buffer.len()) {
-        return unwritten(Refusal::BufferTooShort);
+    if !has_room(buffer.len(), LONGEST, |rest| put_notice(rest, r, time)) {
+        return Written::from(Err(Refusal::BufferTooShort));
     }
-    Written {
-        refusal: 0,
-        length: put_notice(buffer, r, time),
-    }
+    Written::from(Ok(put_notice(buffer, r, time)))
 }
 
 // Writes the text of a record with a heading time that is known: 13, then 14 where the buffer is too short for it. A refused writing touches no byte.
@@ -118,7 +96,7 @@ pub fn write_at(r: Record, time: u32, buffer: &mut [u8]) -> Written
     ensures { WroteAt time r buffer.old buffer.new result }
 {
     if !valid_record(r) {
-        return unwritten(Refusal::InvalidRecord);
+        return Written::from(Err(Refusal::InvalidRecord));
     }
     write_valid(r, time, buffer)
 }
@@ -136,7 +114,7 @@ pub fn rewrite(message: &[u8], buffer: &mut [u8]) -> Written
 {
     match read_record(message) {
         Ok(r) => write_valid(r, latest_time(r.rows), buffer),
-        Err(fault) => unwritten(fault.refusal),
+        Err(fault) => Written::from(Err(fault.refusal)),
     }
 }
 
