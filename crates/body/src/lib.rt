@@ -5,7 +5,7 @@
 
 ghost use Rattle.std.specs.Prelude.{◌≡◌, [], map};
 ghost use Rattle.text.specs.Choice.{all};
-ghost use Rattle.text.specs.Lines.{line_text, under};
+ghost use Rattle.text.specs.Lines.{under};
 ghost use Rattle.text.specs.Put.{Put};
 ghost use Rattle.row.specs.Row.{valid_row, is_blank_row};
 ghost use Rattle.rowtext.specs.Text.{row_pieces};

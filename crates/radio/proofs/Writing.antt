@@ -61,9 +61,6 @@ pub field_put : (row : Row) (i : ℕ) (d : Field) → i < 15 → {x at b r : ℕ
 field_put row i d h {x} {at} {b} {r} {before} {now} {after} e p q =
     subst (λ t. Put at t before after r) (sym (numbers-more row order i d h)) (more p (rw e at q))
 
-pub fields-put : (row : Row) {i at r : ℕ} {before after : List ℕ} → i ≡ 15 → PutFields row i at before after r → Put at (row_bytes row) before after r
-fields-put row z p = rw z at p
-
 -- the rows of a record
 module _ (rows : List Row) (s : sendable rows ≡ true) where
   all-valid : all valid_row rows ≡ true

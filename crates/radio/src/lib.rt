@@ -7,7 +7,7 @@ ghost use Rattle.text.specs.Put.{Put};
 ghost use Rattle.text.specs.Code.Writes.{as_written};
 ghost use Rattle.runway.specs.Time.{real_time};
 ghost use Rattle.row.specs.Row.{valid_row};
-ghost use Rattle.body.specs.Rows.{most_rows, rows_of};
+ghost use Rattle.body.specs.Rows.{most_rows};
 ghost use Rattle.radio.specs.Number.{number_bytes, read_number};
 ghost use Rattle.radio.specs.Minutes.{year_minutes, days_in, date_of, minutes_of, time_of};
 ghost use Rattle.radio.specs.Fields.{number_of, may_be, fill};
@@ -354,6 +354,7 @@ impl Sendable<'_> {
     }
 
     // The record fits into so many bytes: the longest is known, and only a shorter buffer is measured against the record.
+    // stays: tried; a closure that captures this list tells `fill::has_room` nothing of what it puts
     fn has_room(&self, room: usize) -> bool
         ensures { result ≡ leb (length (radio_record self.now.rows.now)) room }
     {
