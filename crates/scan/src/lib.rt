@@ -1,4 +1,5 @@
 // Texts, numbers and runs of bytes, read at a place in a message.
+// stays: may not change: `word` and the others are promised of a text and a place in it, as document 01 has its readers.
 
 #![tactic(auto)]
 
