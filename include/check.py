@@ -78,7 +78,8 @@ def source_structs():
         for m in re.finditer(r"#\[repr\(C\)\]\s*(?:#\[[^\]]*\]\s*)*pub struct (\w+)\s*\{(.*?)\}", text, re.S):
             if m[1] in found:
                 fail(f"two structs {m[1]} are marked #[repr(C)]")
-            found[m[1]] = pairs(m[2], r"pub (\w+): (.+)")
+            sized = re.sub(r"; ([A-Z]\w*)\]", lambda n: f"; {source_constants(path)[n[1]]}]", m[2])
+            found[m[1]] = pairs(sized, r"pub (\w+): (.+)")
     return found
 
 

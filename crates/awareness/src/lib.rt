@@ -217,6 +217,7 @@ fn some_taxiways(s: &[u8], i: usize) -> Taxiways
     let mut taxiways = [0; TAXIWAY_BYTES];
     let mut count: u8 = 0;
     let mut at = place(s, i);
+    // stays: no plainer: the count is part of the answer, also where a name ends the loop
     while count < MOST_TAXIWAYS {
         let Some(name) = taxiway(s, at) else {
             break;

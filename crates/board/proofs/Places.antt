@@ -1,7 +1,7 @@
 -- One law for each case of a step of the loops over places.
 use Rattle.std.specs.Prelude.{ℕ, suc, ◌+◌, ◌-◌, ◌<◌, ◌≤◌, ◌≡◌, List, [], ◌∷◌, cond, ◌&&◌, Bool, true, false, Option, Some, None, MatchOption, ltb, length, take, drop, get_or}
 use Rattle.std.proofs.lemmas.List.Recursion.{is_position_or_len}
-use Rattle.std.proofs.Common.{refl, sym, ◌∙◌, ap, drop_of_length-le, ltb-true, ltb-false, eq-eqb, length-take-le, length-drop, take_all, one-add, arith}
+use Rattle.std.proofs.Common.{refl, sym, ◌∙◌, ap, drop_of_length-le, ltb-true, ltb-false, eq-eqb, length-drop, take_all, one-add, arith}
 use Rattle.std.specs.List.{list_all, zip, position_or_len}
 use Rattle.text.specs.Choice.{◌and◌, all}
 use Rattle.text.specs.Laws.Arrays.{next_place}
@@ -9,7 +9,7 @@ use Rattle.row.specs.declared.Row.{Row}
 use Rattle.row.specs.Row.{blank_row, is_blank_row}
 use Rattle.board.specs.declared.Runway.{Runway}
 use Rattle.board.specs.declared.Board.{Board}
-use Rattle.board.specs.Board.{blank_runway, rises, rising, names, fits_place, fit_places, valid_places}
+use Rattle.board.specs.Board.{blank_runway, rises, rising, names, fits_place, fit_places}
 use Rattle.board.specs.Report.{place_of, place_for, refusal, newest}
 use Rattle.board.specs.Laws.Rules.{get_d_any, rules}
 use Rattle.board.proofs.Laws.Rules.{took}
@@ -25,13 +25,13 @@ module _ (ws : List Runway) (i : ℕ) (v : Runway) where
   rise_end h = rw (drop_of_length-le ws h)
 
   module _ (h : i < length ws) where
-    pub rise-on : rises v here ≡ true → rising v (drop i ws) ≡ rising here (drop (i + 1) ws)
+    pub rise_on : rises v here ≡ true → rising v (drop i ws) ≡ rising here (drop (i + 1) ws)
     unfolding rising ◌and◌
-    rise-on e = rw (next_place blank_runway ws i h, e)
+    rise_on e = rw (next_place blank_runway ws i h, e)
 
-    pub rise-off : rises v here ≡ false → false ≡ rising v (drop i ws)
+    pub rise_off : rises v here ≡ false → false ≡ rising v (drop i ws)
     unfolding rising ◌and◌
-    rise-off e = rw (next_place blank_runway ws i h, e)
+    rise_off e = rw (next_place blank_runway ws i h, e)
 
 -- the first runway that the row names
 pub place-found : (r : Row) (ws : List Runway) {o : Option ℕ}
@@ -58,27 +58,19 @@ place-found r ws e = rw (e, ← first) (go (ltb (place_of r ws) (length ws)) ref
     go false h = let k = ltb-false _ _ h in let w = within ws in omega arith
 
 -- rows in their places, and zeros behind them
-pub fit-split : (ws : List Runway) (rs : List Row) → (list_all (λ p. fits_place p.0 p.1) (zip ws rs) and all is_blank_row (drop (length ws) rs)) ≡ fit_places ws rs
+pub fit_split : (ws : List Runway) (rs : List Row) → fit_places ws rs ≡ (list_all (λ p. fits_place p.0 p.1) (zip ws rs) and all is_blank_row (drop (length ws) rs))
 unfolding fit_places ◌and◌
-fit-split [] rs = refl
-fit-split (w ∷ ws) [] = refl
-fit-split (w ∷ ws) (r ∷ rs) = go (fits_place w r) _ _ (fit-split ws rs)
+fit_split [] rs = refl
+fit_split (w ∷ ws) [] = refl
+fit_split (w ∷ ws) (r ∷ rs) = go (fits_place w r) _ _ (fit_split ws rs)
   where
-    go : (t a b : Bool) {c : Bool} → (a and b) ≡ c → ((t && a) and b) ≡ (t and c)
+    go : (t a b : Bool) {c : Bool} → c ≡ (a and b) → (t and c) ≡ ((t && a) and b)
     go true a b e = e
     go false a b e = refl
 
 -- of an array of n places, those from i on
-pub rest-all : {A : Type 0} (n i : ℕ) (l : List A) → length l ≡ n → take (n - i) (drop i l) ≡ drop i l
-rest-all n i l e = take_all (n - i) (drop i l) (simp length-drop (omega arith))
-
-pub places_split : (n : ℕ) (ws : List Runway) (rs : List Row) → n ≤ 8 → length ws ≡ 8 → length rs ≡ 8
-    → (list_all (λ p. fits_place p.0 p.1) (zip (take n ws) rs) and all is_blank_row (take (8 - n) (drop n rs))) ≡ valid_places n ws rs
-unfolding valid_places ◌and◌
-places_split n ws rs h e q =
-    let f : length (take n ws) ≡ n = length-take-le n ws (omega arith) in
-    let k = fit-split (take n ws) rs in
-    rw (rest-all 8 n rs q, eq-eqb (length rs) 8 q) (rw f at k)
+pub rest_all : {A : Type 0} (n i : ℕ) (l : List A) → length l ≡ n → take (n - i) (drop i l) ≡ drop i l
+rest_all n i l e = take_all (n - i) (drop i l) (simp length-drop (omega arith))
 
 -- what a place holds does not depend on what stands for a row outside
 pub row-there : (d : Row) (rs : List Row) (i : ℕ) → i < length rs → get_or rs i d ≡ get_or rs i blank_row

@@ -3,12 +3,12 @@
 
 #![tactic(auto)]
 
-ghost use Rattle.std.specs.Prelude.{◌≡◌, ◌<◌, ◌≤◌, length, MatchOption, MatchResult};
+ghost use Rattle.std.specs.Prelude.{◌≡◌, ◌<◌, ◌≤◌, length, take, MatchOption, MatchResult};
 ghost use Rattle.std.specs.List.{list_all, zip};
 ghost use Rattle.text.specs.Choice.{all};
 ghost use Rattle.text.specs.Refusals.{number};
 ghost use Rattle.row.specs.Row.{is_blank_row};
-ghost use Rattle.board.specs.Board.{is_aerodrome, blank_runway, is_blank_runway, rises, rising, valid_list, names, fits_place, valid_places, latest_shown, is_desk, valid_owners, valid_opening, valid_board, blank_board, answer, opening, refused_opening};
+ghost use Rattle.board.specs.Board.{is_aerodrome, blank_runway, is_blank_runway, rises, rising, names, fits_place, fit_places, latest_shown, is_desk, valid_opening, valid_board, blank_board, answer, opening, refused_opening};
 ghost use Rattle.board.specs.Report.{place_of, place_for, is_news, refusal, newest, report};
 ghost use Rattle.board.specs.Laws.Latest.{Goods};
 
@@ -20,6 +20,7 @@ use scan::zeros_from;
 use text::refusal::Refusal;
 
 // Runways rise by number, and then by side.
+// stays: C interface
 #[repr(C)]
 #[derive(Clone, Copy, PartialEq, Eq, PartialOrd, Ord)]
 pub struct Runway {
@@ -29,6 +30,7 @@ pub struct Runway {
 }
 
 // Zeros in every place that is unused or unreported.
+// stays: C interface
 #[repr(C)]
 #[derive(Clone, Copy)]
 pub struct Board {
@@ -50,9 +52,11 @@ pub struct Sent {
 }
 
 // A refusal number, 0 for taken, and the board afterwards.
+// stays: C interface
 #[repr(C)]
 #[derive(Clone, Copy)]
 pub struct Answer {
+    // stays: C interface: 0, or the number of a refusal
     pub refusal: u8,
     pub board: Board,
 }
@@ -71,6 +75,7 @@ fn is_aerodrome(a: [u8; 4]) -> bool
     read_aerodrome(&a).is_some()
 }
 
+#[tactic(auto, using(text::specs::Laws::Tests::and_is), unfolding(crate::specs::Board::is_blank_runway))]
 fn is_blank_runway(w: Runway) -> bool
     ensures { result ≡ is_blank_runway w }
 {
@@ -78,12 +83,14 @@ fn is_blank_runway(w: Runway) -> bool
 }
 
 // A runway that may stand behind `v` in a list.
+#[tactic(auto, using(text::specs::Laws::Tests::and_is), unfolding(crate::specs::Board::rises, crate::specs::Board::comes_before))]
 fn rises(v: Runway, w: Runway) -> bool
     ensures { result ≡ rises v w }
 {
     valid_runway(HIGHEST_RUNWAY, w.number, w.side) && v < w
 }
 
+#[tactic(auto, using(crate::proofs::Places::rise_end, crate::proofs::Places::rise_on, crate::proofs::Places::rise_off))]
 fn all_rise(runways: &[Runway]) -> bool
     ensures { result ≡ rising blank_runway runways.now }
 {
@@ -103,21 +110,11 @@ fn all_blank(runways: &[Runway]) -> bool
     runways.iter().all(|&w| is_blank_runway(w))
 }
 
-// An aerodrome, and 1 to 8 runways that rise, with zeros behind them.
-fn valid_list(aerodrome: [u8; 4], count: u8, runways: [Runway; 8]) -> bool
-    ensures { result ≡ valid_list aerodrome count runways }
-{
-    is_aerodrome(aerodrome)
-        && 1 <= count
-        && count <= MOST_RUNWAYS
-        && all_rise(&runways[..count as usize])
-        && all_blank(&runways[count as usize..])
-}
-
+#[tactic(auto, unfolding(crate::specs::Board::is_desk))]
 fn is_desk(desk: u32) -> bool
     ensures { result ≡ is_desk desk }
 {
-    desk == 1 || desk == 2
+    matches!(desk, 1 | 2)
 }
 
 fn all_desks(owners: &[u8]) -> bool
@@ -126,21 +123,22 @@ fn all_desks(owners: &[u8]) -> bool
     owners.iter().all(|&owner| is_desk(u32::from(owner)))
 }
 
-// A desk for each of `count` runways, and zeros behind them.
-fn valid_owners(count: usize, owners: [u8; 8]) -> bool
-    requires { count ≤ 8 }
-    ensures { result ≡ valid_owners count owners }
-{
-    all_desks(&owners[..count]) && zeros_from(&owners, count)
-}
-
-// An aerodrome, a list of runways and their owners that opening takes.
+// What opening takes: an aerodrome, 1 to 8 runways that rise, and a desk for each, with zeros behind them.
+#[tactic(auto, using(text::specs::Laws::Tests::and_is, crate::proofs::Places::rest_all), unfolding(crate::specs::Board::valid_list, crate::specs::Board::valid_owners, crate::specs::Board::valid_opening))]
 fn valid_opening(aerodrome: [u8; 4], count: u8, runways: [Runway; 8], owners: [u8; 8]) -> bool
     ensures { result ≡ valid_opening aerodrome count runways owners }
 {
-    valid_list(aerodrome, count, runways) && valid_owners(count as usize, owners)
+    let n = usize::from(count);
+    is_aerodrome(aerodrome)
+        && 1 <= n
+        && n <= PLACES
+        && all_rise(&runways[..n])
+        && all_blank(&runways[n..])
+        && all_desks(&owners[..n])
+        && zeros_from(&owners, n)
 }
 
+#[tactic(auto, using(text::specs::Laws::Tests::and_is), unfolding(crate::specs::Board::names))]
 fn names(r: Row, w: Runway) -> bool
     ensures { result ≡ names r w }
 {
@@ -148,6 +146,7 @@ fn names(r: Row, w: Runway) -> bool
 }
 
 // A shown row is valid and stands in its own runway's place.
+#[tactic(auto, using(text::specs::Laws::Tests::and_is), unfolding(crate::specs::Board::fits_place))]
 fn fits_place(w: Runway, r: Row) -> bool
     ensures { result ≡ fits_place w r }
 {
@@ -167,15 +166,17 @@ fn all_unreported(rows: &[Row]) -> bool
     rows.iter().all(|&r| is_blank_row(r))
 }
 
-// Each row shown stands in its own runway's place, and zeros in every unused one.
-fn valid_places(count: usize, runways: [Runway; 8], rows: [Row; 8]) -> bool
-    requires { count ≤ 8 }
-    ensures { result ≡ valid_places count runways rows }
+// Each row shown stands in its own runway's place, and zeros in every place past the runways.
+#[tactic(auto, using(text::specs::Laws::Tests::and_is, crate::proofs::Places::fit_split, crate::proofs::Places::rest_all))]
+fn fit_places(runways: &[Runway], rows: &[Row]) -> bool
+    requires { length runways.now ≤ length rows.now }
+    ensures { result ≡ fit_places runways.now rows.now }
 {
-    all_fit(&runways[..count], &rows) && all_unreported(&rows[count..])
+    all_fit(runways, rows) && all_unreported(&rows[runways.len()..])
 }
 
 // Of a stored time and a row's the later; where none is stored, the row's.
+#[tactic(auto, unfolding(crate::specs::Report::newest))]
 fn newest(latest: u32, time: u32) -> u32
     ensures { result ≡ newest latest time }
 {
@@ -200,12 +201,23 @@ fn latest_shown(rows: [Row; 8]) -> u32
     latest
 }
 
+impl Board {
+    // The runways that the board has.
+    fn used(&self) -> &[Runway]
+        requires { self.now.count ≤ 8 }
+        ensures { result.now ≡ take self.now.count self.now.runways }
+    {
+        &self.runways[..usize::from(self.count)]
+    }
+}
+
 // Whether a board that is handed in keeps its rules.
+#[tactic(auto, using(text::specs::Laws::Tests::and_is), unfolding(crate::specs::Board::valid_places, crate::specs::Board::valid_board))]
 pub fn valid_board(b: Board) -> bool
     ensures { result ≡ valid_board b }
 {
     valid_opening(b.aerodrome, b.count, b.runways, b.owners)
-        && valid_places(b.count as usize, b.runways, b.rows)
+        && fit_places(b.used(), &b.rows)
         && b.latest == latest_shown(b.rows)
 }
 
@@ -234,6 +246,8 @@ pub fn refused_opening() -> Answer
 }
 
 // A board of an aerodrome and 1 to 8 rising runways with their owners, nothing reported; 17 and the blank board where they are none.
+// stays: C interface
+#[tactic(auto, unfolding(crate::specs::Board::opening))]
 pub fn open(aerodrome: [u8; 4], count: u8, runways: [Runway; 8], owners: [u8; 8]) -> Answer
     ensures { result ≡ opening aerodrome count runways owners }
 {
@@ -263,6 +277,7 @@ fn place_of(r: Row, runways: &[Runway]) -> Option<usize>
 }
 
 // Observed later than the row shown, if there is one.
+#[tactic(auto, unfolding(crate::specs::Report::is_news))]
 fn is_news(r: Row, shown: Row) -> bool
     ensures { result ≡ is_news r shown }
 {
@@ -270,6 +285,7 @@ fn is_news(r: Row, shown: Row) -> bool
 }
 
 // The place that a report is stored in, or the first thing that is wrong with it: 17, 23, 19, 18, 22, 20.
+#[tactic(auto, unfolding(crate::specs::Report::refusal))]
 fn place_taken(b: &Board, x: Sent) -> Result<usize, Refusal>
     ensures { MatchResult result
         (λ i. (refusal b.now x.desk x.row ≡ 0) × (i ≡ place_for b.now x.row))
@@ -284,8 +300,7 @@ fn place_taken(b: &Board, x: Sent) -> Result<usize, Refusal>
     if !valid_row(x.row) {
         return Err(Refusal::InvalidRow);
     }
-    let runways = &b.runways[..b.count as usize];
-    let Some(i) = place_of(x.row, runways) else {
+    let Some(i) = place_of(x.row, b.used()) else {
         return Err(Refusal::NotOnBoard);
     };
     if x.desk != u32::from(b.owners[i]) {
@@ -298,6 +313,7 @@ fn place_taken(b: &Board, x: Sent) -> Result<usize, Refusal>
 }
 
 // The board with the report stored.
+#[tactic(auto, unfolding(crate::specs::Report::report))]
 fn after_report(b: Board, x: Sent) -> Result<Board, Refusal>
     ensures { MatchResult result (λ c. report b x.desk x.row ≡ answer 0 c) (λ e. report b x.desk x.row ≡ answer (number e) b) }
 {
@@ -322,6 +338,7 @@ pub fn report(b: Board, x: Sent) -> Answer
 }
 
 // The desk's step: the board is updated in its place, and the refusal number answered.
+// stays: document 01 names the thin function over `&mut Board`
 pub fn take_report(board: &mut Board, x: Sent) -> u8
     ensures { (board.new ≡ (report board.old x.desk x.row).board) × (result ≡ (report board.old x.desk x.row).refusal) }
 {

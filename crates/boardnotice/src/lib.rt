@@ -8,7 +8,7 @@ ghost use Rattle.board.specs.Board.{reported};
 ghost use Rattle.boardnotice.specs.Writing.{board_record, WroteBoard};
 ghost use Rattle.boardnotice.specs.DeskNotice.{details_of, WroteDeskNotice};
 
-use board::{Board, PLACES, valid_board};
+use board::{Board, valid_board};
 use body::Rows;
 use desktext::desk_board;
 use frontlines::{Addresses, Filing, Title};
@@ -16,7 +16,8 @@ use items::{Items, Language};
 use notice::{read, write_at};
 use record::Record;
 use row::{Row, blank_row, is_blank_row};
-use text::{Written, refusal};
+use text::Written;
+use text::refusal::Refusal;
 
 // What the heading of a notice says besides the aerodrome and the time.
 #[repr(C)]
@@ -29,16 +30,12 @@ pub struct Details {
 }
 
 // The rows shown, in board order, zeros behind them.
-fn shown_rows(rows: [Row; 8]) -> Rows
-    ensures { result ≡ make_rows (reported rows) }
+fn shown_rows(rows: &[Row; 8]) -> Rows
+    ensures { result ≡ make_rows (reported rows.now) }
 {
-    let none = blank_row();
-    let mut shown = [none; 8];
+    let mut shown = [blank_row(); 8];
     let mut count: u8 = 0;
-    let mut i: usize = 0;
-    while i < PLACES {
-        let r = rows[i];
-        i += 1;
+    for &r in rows {
         if !is_blank_row(r) {
             shown[count as usize] = r;
             count += 1;
@@ -51,21 +48,15 @@ fn shown_rows(rows: [Row; 8]) -> Rows
 fn board_record(b: Board, d: Details, items: Items, language: Language) -> Record
     ensures { result ≡ board_record b d items language }
 {
-    let places = b.rows;
-    let rows = shown_rows(places);
-    let addresses = d.addresses;
-    let filing = d.filing;
-    let region = d.region;
-    let aerodrome = b.aerodrome;
     Record {
-        addresses,
-        filing,
+        addresses: d.addresses,
+        filing: d.filing,
         title: Title {
-            region,
+            region: d.region,
             serial: d.serial,
-            aerodrome,
+            aerodrome: b.aerodrome,
         },
-        rows,
+        rows: shown_rows(&b.rows),
         items,
         language,
     }
@@ -81,35 +72,25 @@ pub fn write_board(
 ) -> Written
     ensures { WroteBoard b d items language buffer.old buffer.new result }
 {
-    if valid_board(b) {
-        let r = board_record(b, d, items, language);
-        if r.rows.count == 0 {
-            return Written {
-                refusal: refusal::NO_REPORT,
-                length: 0,
-            };
-        }
-        return write_at(r, b.latest, buffer);
+    if !valid_board(b) {
+        return Written::from(Err(Refusal::WrongBoard));
     }
-    Written {
-        refusal: refusal::WRONG_BOARD,
-        length: 0,
+    let r = board_record(b, d, items, language);
+    if r.rows.count == 0 {
+        return Written::from(Err(Refusal::NoReport));
     }
+    write_at(r, b.latest, buffer)
 }
 
 // What the heading of a record says besides the aerodrome and the time.
 fn details_of(r: Record) -> Details
     ensures { result ≡ details_of r }
 {
-    let addresses = r.addresses;
-    let filing = r.filing;
-    let title = r.title;
-    let region = title.region;
     Details {
-        addresses,
-        filing,
-        region,
-        serial: title.serial,
+        addresses: r.addresses,
+        filing: r.filing,
+        region: r.title.region,
+        serial: r.title.serial,
     }
 }
 
@@ -118,11 +99,12 @@ fn details_of(r: Record) -> Details
 pub fn board_notice(desk: &[u8], model: &[u8], buffer: &mut [u8]) -> Written
     ensures { WroteDeskNotice desk.now model.now buffer.old buffer.new result }
 {
-    let board = desk_board(desk);
-    let reading = read(model);
-    let record = reading.record;
-    let items = record.items;
-    let language = record.language;
-    let details = details_of(record);
-    write_board(board, details, items, language, buffer)
+    let record = read(model).record;
+    write_board(
+        desk_board(desk),
+        details_of(record),
+        record.items,
+        record.language,
+        buffer,
+    )
 }

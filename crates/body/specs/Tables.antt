@@ -1,5 +1,5 @@
 -- "No runway twice": number and side together; the refusals of lines that are missing or too many; the answers, evaluated.
-use Rattle.std.specs.Prelude.{ℕ, ◌≡◌, refl, List, [], ◌∷◌, ◌++◌, map, Bool, true, false, replicate}
+use Rattle.std.specs.Prelude.{ℕ, ◌≡◌, refl, List, [], ◌∷◌, ◌++◌, map, Bool, true, false, Ok, Err, replicate}
 use Prim.Native.String.{String}
 use Rattle.std.proofs.Common.{lit≤}
 use Rattle.text.specs.Choice.{◌and◌}
@@ -7,7 +7,7 @@ use Rattle.text.specs.Piece.{bytes}
 use Rattle.text.specs.Read.{skip, read_text}
 use Rattle.text.specs.Names.{read_name}
 use Rattle.text.specs.Numbers.{read_digits}
-use Rattle.text.specs.Lines.{cut, cuts, lines_size, closed, all_but_last}
+use Rattle.text.specs.Lines.{cut, cuts, line_step, end_size, lines_size, closed, all_but_last}
 use Rattle.text.specs.Out.{Out, refuse}
 use Rattle.row.specs.declared.Row.{Row}
 use Rattle.row.specs.Row.{blank_row, three_that, valid_row, is_bare, is_six, is_dry, is_short}
@@ -15,9 +15,12 @@ use Rattle.rowtext.specs.Reading.{parted, may_cover, may_lie, read_width, time_g
 use Rattle.rowtext.specs.Reading.{width_group, short, find_row}
 use Rattle.body.specs.Rows.{most_rows, make_rows, same_runway, is_among, new_runways, latest, Block, read_rows}
 use Rattle.body.specs.Rows as Rows
-use Rattle.body.specs.Code.Held.{no_rows, rows_answer, RowsHeld}
+use Rattle.body.specs.Code.Held.{Kept, LineHeld, RowsHeld}
 use Rattle.body.specs.declared.Rows.{Rows}
-use Rattle.body.specs.declared.RowsRead.{RowsRead}
+use Rattle.body.specs.declared.RowsFound.{RowsFound}
+use Rattle.text.specs.declared.refusal.Fault.{Fault}
+use Rattle.text.specs.declared.refusal.Refusal.{Refusal}
+use Rattle.text.specs.declared.refusal.Refusal.TheVariants.{Outline, RunwayTwice, WrongRunway}
 use Rattle.runway.specs.Time.{is_short_month, days_of, real_day, real_clock, real_time, later}
 use Rattle.runway.specs.Runway.{valid_runway}
 use Rattle.surface.specs.Descriptions.{is_contaminant, is_deep, not_reported, dry}
@@ -63,9 +66,13 @@ dries = record {
 abbrev rows : Rows
 rows = make_rows (dries ∷ [])
 
--- the rows with a refusal, `)` or none, and a place
-abbrev told : ℕ → Rows → Bool → ℕ → RowsRead
-told n r c at = record { refusal = n; place = 0; rows = r; closed = c; next = at }
+-- the rows with `)` or none, and the place behind them
+abbrev found : Bool → ℕ → RowsFound
+found c next = record { rows = rows; closed = c; next = next }
+
+-- a refusal, and where it is told
+abbrev fault : Refusal → ℕ → Fault
+fault e at = record { refusal = e; place = at }
 
 -- the rows of a message, and where it is told to be wrong
 abbrev read : String → Out Block
@@ -84,19 +91,27 @@ pub record Answers : Type 0 where
   twice : read "01120640 12 6/6/6 DRY/DRY/DRY\n01120641   12 6/6/6 DRY/DRY/DRY)" ≡ refuse 7 (bytes "12 6/6/6 DRY/DRY/DRY)")
   -- "for bytes after the end the first of them"
   after : read "01120640 12 6/6/6 DRY/DRY/DRY)\r\n)" ≡ refuse 4 (bytes ")")
-  -- a refused reading is blank
-  none : no_rows 5 7 ≡ record { refusal = 5; place = 7; rows = record { count = 0; rows = replicate 8 blank_row }; closed = false; next = 0 }
-  closed-rows : rows_answer 0 7 rows true 31 ≡ told 0 rows true 0
-  open-rows : rows_answer 0 7 rows false 31 ≡ told 0 rows false 31
-  refused-rows : map (λ n. rows_answer n 7 rows true 31) (1 ∷ 7 ∷ []) ≡ no_rows 1 7 ∷ no_rows 7 7 ∷ []
-  held_none : RowsHeld [] (no_rows 4 0)
-  held-closed : RowsHeld line (told 0 rows true 0)
+  -- no rows
+  none : make_rows [] ≡ record { count = 0; rows = replicate 8 blank_row }
+  -- the row of a line, with `)` and without, or its fault
+  line_closed : LineHeld line (Ok (record { row = dries; closed = true }))
+  line_open : LineHeld (all_but_last line) (Ok (record { row = dries; closed = false }))
+  line_fault : LineHeld (bytes "01120640)") (Err (fault WrongRunway 8))
+  -- rows that `)` closes, rows above an empty line with its place behind it, and faults
+  held-closed : RowsHeld line (Ok (found true 0))
+  held_open : RowsHeld (bytes "01120640 12 6/6/6 DRY/DRY/DRY\n\nA") (Ok (found false 31))
+  held_none : RowsHeld [] (Err (fault Outline 0))
+  held_twice : RowsHeld (bytes "01120640 12 6/6/6 DRY/DRY/DRY\n01120641 12 6/6/6 DRY/DRY/DRY)") (Err (fault RunwayTwice 39))
+  held_after : RowsHeld (bytes "01120640 12 6/6/6 DRY/DRY/DRY)\r\n)") (Err (fault Outline 32))
+
+kept : Kept rows
+kept = record { few = lit≤ tt; zeros = refl }
 
 pub answers : Answers
 unfolding ◌and◌ skip read_text read_name read_digits measure_pieces read_measure read_coverage read_description read_third read_group
     parted may_cover may_lie read_width time_group runway_group code_group coverage_group depth_group description_group width_group short find_row
     is_short_month days_of real_day real_clock real_time valid_runway is_contaminant is_deep is_coverage valid_coverage least_depth is_reported valid_depth
-    valid_third three_that valid_row is_bare is_six is_dry is_short cuts lines_size closed all_but_last same_runway is_among read_rows rows_answer
+    valid_third three_that valid_row is_bare is_six is_dry is_short cuts line_step end_size lines_size closed all_but_last same_runway is_among read_rows
 answers = record {
   most = refl;
   missing = refl;
@@ -106,9 +121,12 @@ answers = record {
   twice = refl;
   after = refl;
   none = refl;
-  closed-rows = refl;
-  open-rows = refl;
-  refused-rows = refl;
-  held_none = record { kept = record { few = lit≤ tt; zeros = refl }; inside = lit≤ tt; says = refl; behind = refl; blank = refl };
-  held-closed = record { kept = record { few = lit≤ tt; zeros = refl }; inside = lit≤ tt; says = refl; behind = refl; blank = refl };
+  line_closed = record { says = refl; closes = refl };
+  line_open = record { says = refl; closes = refl };
+  line_fault = record { within = lit≤ tt; says = refl };
+  held-closed = record { kept = kept; says = refl; behind = refl };
+  held_open = record { kept = kept; says = refl; behind = refl };
+  held_none = record { within = lit≤ tt; says = refl };
+  held_twice = record { within = lit≤ tt; says = refl };
+  held_after = record { within = lit≤ tt; says = refl };
 }

@@ -6,16 +6,13 @@ use Rattle.text.specs.Choice.{◌and◌}
 use Rattle.text.specs.Piece.{canonical, end}
 use Rattle.text.specs.Read.{Got, misfit, got, guard, and_then, whole}
 use Rattle.text.specs.Names.{is_letter, read_count}
-use Rattle.text.specs.Out.{Out, refuse, taken}
+use Rattle.text.specs.Out.{refuse, taken}
 use Rattle.text.specs.Laws.Base.{true-false}
-use Rattle.text.specs.Laws.Out.{Within, stopped, Any}
-use Rattle.rowtext.specs.Laws.Faults.{is_row_number, row_within}
 use Rattle.text.specs.Laws.Put.{canonical-append}
 use Rattle.row.specs.declared.Row.{Row}
-use Rattle.rowtext.specs.declared.RowRead.{RowRead}
 use Rattle.row.specs.Row.{valid_row}
 use Rattle.rowtext.specs.Text.{row_pieces}
-use Rattle.rowtext.specs.Reading.{find_row, row_answer}
+use Rattle.rowtext.specs.Reading.{find_row}
 use Rattle.text.specs.Refusals.{no_row}
 use Rattle.frontlines.specs.Letters.{is_letters}
 use Rattle.frontlines.specs.Heading.{aerodrome_size, read_aerodrome}
@@ -27,7 +24,7 @@ use Rattle.board.specs.declared.Answer.{Answer}
 use Rattle.desktext.specs.declared.RunwayList.{RunwayList}
 use Rattle.board.specs.Board.{is_aerodrome, answer, refused_opening}
 use Rattle.board.specs.Report.{report}
-use Rattle.desktext.specs.Line.{read_runways, read_opening, list_found, opening_with, opening_read, opening_line, read_sender, report_read, report_line, shown_text}
+use Rattle.desktext.specs.Line.{read_runways, read_opening, list_found, opening_with, opening_read, opening_line, read_sender, report_line, shown_text}
 use Rattle.board.specs.Laws.Aerodrome.{aerodrome-fits}
 
 -- the first n bytes of a class, read as a part of their own
@@ -93,30 +90,19 @@ module _ (line : List ℕ) (h : length line ≤ longest) where
   unfolding report_line
   line-unstarted e b = rw (le-leb (length line) longest h, e)
 
-  module _ (desk : ℕ) (rest : List ℕ) (e : read_sender line ≡ got desk rest) (r : RowRead) (q : r ≡ row_answer rest (find_row rest)) where
-    line-started : (b : Board) → report_line b line ≡ report_read b desk (find_row rest)
+  module _ (desk : ℕ) (rest : List ℕ) (e : read_sender line ≡ got desk rest) where
+    pub line-refused : {n : ℕ} {left : List ℕ} → find_row rest ≡ refuse n left → (b : Board) → report_line b line ≡ answer n b
     unfolding report_line
-    line-started b = rw (le-leb (length line) longest h, e)
+    line-refused q b = rw (le-leb (length line) longest h, e, q)
 
-    pub line-refused : (r.refusal ≡ 0 → ⊥) → (b : Board) → report_line b line ≡ answer r.refusal b
-    line-refused z b = line-started b ∙ rw q (go (find_row rest) (λ k. z (ap (λ (x : RowRead). x.refusal) q ∙ k)))
-      where
-        go : (o : Out Row) → ((row_answer rest o).refusal ≡ 0 → ⊥) → report_read b desk o ≡ answer (row_answer rest o).refusal b
-        go (refuse n left) z = refl
-        go (taken r) z = absurd (z refl)
-
-    pub line-reported : r.refusal ≡ 0 → (b : Board) → report_line b line ≡ report b desk r.row
-    unfolding is_row_number ◌and◌
-    line-reported z b = line-started b ∙ rw q (go (find_row rest) (row_within rest) (ap (λ (x : RowRead). x.refusal) (sym q) ∙ z))
-      where
-        go : (o : Out Row) → Within is_row_number rest Any o → (row_answer rest o).refusal ≡ 0 → report_read b desk o ≡ report b desk (row_answer rest o).row
-        go (refuse n left) (stopped h t) z = true-false (sym h ∙ ap is_row_number z)
-        go (taken r) w z = refl
+    pub line-reported : {r : Row} → find_row rest ≡ taken r → (b : Board) → report_line b line ≡ report b desk r
+    unfolding report_line
+    line-reported q b = rw (le-leb (length line) longest h, e, q)
 
 -- the line of a row shown
-pub shown-line : (r : Row) → valid_row r ≡ true → shown_text r ≡ canonical (row_pieces r) ++ (10 ∷ [])
+pub shown_line : (r : Row) → valid_row r ≡ true → shown_text r ≡ canonical (row_pieces r) ++ (10 ∷ [])
 unfolding shown_text
-shown-line r v = rw v (canonical-append (row_pieces r) (end ∷ []))
+shown_line r v = rw v (canonical-append (row_pieces r) (end ∷ []))
 
 pub no_line : (r : Row) → valid_row r ≡ false → shown_text r ≡ []
 unfolding shown_text

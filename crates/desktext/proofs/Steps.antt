@@ -61,18 +61,18 @@ return-length x (y ∷ l) = ap suc (return-length y l) ∙ go (eqb (get_or (y �
     go true = refl
     go false = refl
 
-pub return-cut : (l : List ℕ) → 0 < length l → get_or l (length l - 1) 0 ≡ 13 → take (length l - 1) l ≡ without_return l
-return-cut [] h e = absurd (omega arith)
-return-cut (x ∷ l) h e =
+pub return_cut : (l : List ℕ) → 0 < length l → get_or l (length l - 1) 0 ≡ 13 → take (length l - 1) l ≡ without_return l
+return_cut [] h e = absurd (omega arith)
+return_cut (x ∷ l) h e =
     let z : suc (length l) - 1 ≡ length l = omega arith in
     let f = rw z at e in
     let n : length l ≡ length (without_return (x ∷ l)) = rw (return-length x l, f) in
     rw (z, n) (return-taken (x ∷ l))
 
-pub return-kept : (l : List ℕ) → (0 < length l → get_or l (length l - 1) 0 ≡ 13 → ⊥) → l ≡ without_return l
+pub return_kept : (l : List ℕ) → (0 < length l → get_or l (length l - 1) 0 ≡ 13 → ⊥) → l ≡ without_return l
 unfolding without_return
-return-kept [] e = refl
-return-kept (x ∷ l) e =
+return_kept [] e = refl
+return_kept (x ∷ l) e =
     let z : suc (length l) - 1 ≡ length l = omega arith in
     let f = rw z at (e (omega arith)) in
     let n : length (without_return (x ∷ l)) ≡ length (x ∷ l) = rw (return-length x l, ne_eqb (get_or (x ∷ l) (length l) 0) 13 f) in

@@ -13,6 +13,7 @@ ghost use Rattle.desktext.specs.Pieces.{opened_standing, opened_line, board_of, 
 ghost use Rattle.desktext.specs.Pieces.{start_state, begun, kept_byte, without_return, fed_state, fed_text, last_standing, last_text, finish_text};
 ghost use Rattle.text.specs.Names.{is_space, read_count};
 ghost use Rattle.text.specs.Read.{whole};
+ghost use Rattle.text.specs.Refusals.{number};
 ghost use Rattle.text.specs.Code.Held.{Held};
 
 use board::{
@@ -22,7 +23,7 @@ use board::{
 use fill::{in_rest, put, put_number, told_behind};
 use frontlines::read_aerodrome;
 use row::{Row, valid_row};
-use rowtext::{put_any_row, read_row};
+use rowtext::{find_row, put_any_row};
 use runway::read_runway;
 use scan::{digits, word};
 use text::refusal::Refusal;
@@ -31,6 +32,7 @@ use text::{Found, LONGEST, place};
 // ---- The desk's lines
 
 // Runways and their owners in their arrays, zeros past the count.
+// stays: C interface
 #[repr(C)]
 #[derive(Clone, Copy)]
 pub struct RunwayList {
@@ -86,6 +88,7 @@ fn runway_list(s: &[u8]) -> Option<RunwayList>
         owners: [0; 8],
     };
     let mut at = 0;
+    // stays: no plainer: a step is as long as what it reads
     while at < s.len() {
         if list.count == MOST_RUNWAYS {
             return None;
@@ -118,6 +121,7 @@ fn open_line(line: &[u8]) -> Answer
 }
 
 // The desk that a row line starts with: one digit, and exactly one space.
+#[tactic(auto, unfolding(crate::specs::Line::read_sender))]
 fn sender(line: &[u8]) -> Option<Found>
     ensures { Held line.now (read_sender line.now) result }
 {
@@ -129,27 +133,25 @@ fn sender(line: &[u8]) -> Option<Found>
     })
 }
 
-// The report that a line tells, or the refusal number: 5 where it does not start with a desk or is over 4,096 bytes, and the row's where it is no row
-// behind that.
-fn read_report(line: &[u8]) -> Result<Sent, u8>
+// The report that a line tells, or why it tells none: it does not start with a desk or is over 4,096 bytes, or what stands behind is no row.
+fn read_report(line: &[u8]) -> Result<Sent, Refusal>
     ensures { MatchResult result
         (λ x. (b : Board) → report_line b line.now ≡ report b x.desk x.row)
-        (λ n. (b : Board) → report_line b line.now ≡ answer n b) }
+        (λ e. (b : Board) → report_line b line.now ≡ answer (number e) b) }
 {
     if LONGEST < line.len() {
-        return Err(Refusal::NoRow.number());
+        return Err(Refusal::NoRow);
     }
     let Some(start) = sender(line) else {
-        return Err(Refusal::NoRow.number());
+        return Err(Refusal::NoRow);
     };
-    let read = read_row(&line[start.next..]);
-    if read.refusal != 0 {
-        return Err(read.refusal);
+    match find_row(&line[start.next..]) {
+        Ok(row) => Ok(Sent {
+            desk: start.value,
+            row,
+        }),
+        Err(fault) => Err(fault.refusal),
     }
-    Ok(Sent {
-        desk: start.value,
-        row: read.row,
-    })
 }
 
 // The report that a line is, taken or refused; a line that is none leaves the board as it was.
@@ -158,11 +160,15 @@ fn report_line(b: Board, line: &[u8]) -> Answer
 {
     match read_report(line) {
         Ok(x) => updated(b, x),
-        Err(refusal) => Answer { refusal, board: b },
+        Err(refusal) => Answer {
+            refusal: refusal.number(),
+            board: b,
+        },
     }
 }
 
 // The row's canonical line; nothing for a row that is not valid, so for zeros.
+#[tactic(auto, using(crate::proofs::Lines::no_line))]
 fn put_line(rest: &mut [u8], r: Row) -> usize
     ensures { Put 0 (shown_text r) rest.old rest.new result }
 {
@@ -267,6 +273,7 @@ fn take_report_line(b: Board, line: &[u8], out: &mut [u8], at: usize) -> Turn
 }
 
 // One line, and what is printed for it.
+#[tactic(auto, using(text::specs::Laws::Put::nothing_put), unfolding(crate::specs::Pieces::after_line, crate::specs::Pieces::line_answer))]
 fn take_line(d: Standing, line: &[u8], out: &mut [u8], at: usize) -> Turn
     ensures standing_value { result.standing ≡ after_line d line.now }
     ensures put { Put at (line_answer d line.now) out.old out.new result.behind }
@@ -282,6 +289,7 @@ fn take_line(d: Standing, line: &[u8], out: &mut [u8], at: usize) -> Turn
 }
 
 // What is printed at the end of the input.
+#[tactic(auto, using(text::specs::Laws::Put::nothing_put), unfolding(crate::specs::Pieces::end_answer))]
 fn put_end(out: &mut [u8], at: usize, d: Standing) -> usize
     ensures { Put at (end_answer d) out.old out.new result }
 {
@@ -305,7 +313,7 @@ const MOST_KEPT: usize = 4098;
 #[derive(Clone, Copy)]
 pub struct State {
     pub standing: Standing,
-    // stays: fixed memory; there is no heap for a list of bytes
+    // stays: no heap, so that the bytes stand in fixed memory
     pub held: [u8; 4098],
     pub count: usize,
 }
@@ -328,25 +336,28 @@ pub fn start() -> State
     }
 }
 
-// The bytes of the line that has not ended.
-fn begun(s: &State) -> &[u8]
-    ensures { result.now ≡ begun s.now }
-{
-    let n = place(&s.held, s.count);
-    &s.held[..n]
-}
+impl State {
+    // The bytes of the line that has not ended.
+    fn begun(&self) -> &[u8]
+        ensures { result.now ≡ begun self.now }
+    {
+        let n = place(&self.held, self.count);
+        &self.held[..n]
+    }
 
-// One byte more of it, as far as it is kept.
-fn keep(s: &mut State, b: u8)
-    ensures { s.new ≡ kept_byte s.old b }
-{
-    if s.count < MOST_KEPT {
-        s.held[s.count] = b;
-        s.count += 1;
+    // One byte more of it, as far as it is kept.
+    fn keep(&mut self, b: u8)
+        ensures { self.new ≡ kept_byte self.old b }
+    {
+        if self.count < MOST_KEPT {
+            self.held[self.count] = b;
+            self.count += 1;
+        }
     }
 }
 
 // A line without the CR that is part of its end.
+#[tactic(auto, using(std::proofs::lemmas::Grind::common_steps, crate::proofs::Steps::return_cut, crate::proofs::Steps::return_kept))]
 fn without_return(line: &[u8]) -> &[u8]
     ensures { result.now ≡ without_return line.now }
 {
@@ -366,12 +377,12 @@ pub fn feed(s: State, piece: &[u8], out: &mut [u8], at: usize) -> Fed
     let mut behind = at;
     for &b in piece {
         if b == LF {
-            let turn = take_line(state.standing, without_return(begun(&state)), out, behind);
+            let turn = take_line(state.standing, without_return(state.begun()), out, behind);
             state.standing = turn.standing;
             state.count = 0;
             behind = turn.behind;
         } else {
-            keep(&mut state, b);
+            state.keep(b);
         }
     }
     Fed {
@@ -381,6 +392,7 @@ pub fn feed(s: State, piece: &[u8], out: &mut [u8], at: usize) -> Fed
 }
 
 // A last line that lacks its end.
+#[tactic(auto, using(text::specs::Laws::Put::nothing_put), unfolding(crate::specs::Pieces::last_standing, crate::specs::Pieces::last_text))]
 fn take_last(s: &State, out: &mut [u8], at: usize) -> Turn
     ensures standing_value { result.standing ≡ last_standing s.now }
     ensures put { Put at (last_text s.now) out.old out.new result.behind }
@@ -391,7 +403,7 @@ fn take_last(s: &State, out: &mut [u8], at: usize) -> Turn
             behind: told_behind(out, at, 0),
         };
     }
-    take_line(s.standing, begun(s), out, at)
+    take_line(s.standing, s.begun(), out, at)
 }
 
 // The end of the input: puts the answer to a last line that lacks its end, and the rows shown; answers the place behind them.

@@ -15,7 +15,7 @@ use text::refusal::Refusal;
 #[repr(C)]
 #[derive(Clone, Copy)]
 pub struct Change {
-    // 0 for two rows that are compared
+    // 0 for two rows that are compared; stays: C interface
     pub refusal: u8,
     // for each third whether its change counts
     pub counts: [bool; 3],

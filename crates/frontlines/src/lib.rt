@@ -296,6 +296,7 @@ pub fn valid_title(t: Title) -> bool
 fn put_priority(rest: &mut [u8], priority: u8) -> usize
     ensures { Put 0 (canonical (spell (priority_name priority))) rest.old rest.new result }
 {
+    // stays: C interface: the priority is a number
     match priority {
         1 => put(rest, 0, b"GG"),
         2 => put(rest, 0, b"DD"),

@@ -2,8 +2,7 @@
 
 #![tactic(auto)]
 
-ghost use Rattle.std.specs.Prelude.{◌≤◌, length, IfOk};
-
+use listing::input::read_full;
 use listing::list;
 use std::io::{self, Read};
 
@@ -11,21 +10,6 @@ use std::io::{self, Read};
 const KEPT: usize = 4097;
 
 const ROOM: usize = 8192;
-
-// Reads until `held` is full or the input ends, and answers how many bytes it put.
-fn read_full(input: &mut impl Read, held: &mut [u8]) -> io::Result<usize>
-    ensures { IfOk result (λ n. n ≤ length held.new) }
-{
-    let mut n: usize = 0;
-    while n < held.len() {
-        let got = input.read(&mut held[n..])?;
-        if got == 0 {
-            break;
-        }
-        n += got;
-    }
-    Ok(n)
-}
 
 // Reads the input to its end, so that the sender is not cut off.
 fn read_on(input: &mut impl Read) -> io::Result<()> {

@@ -8,27 +8,21 @@ ghost use Rattle.body.specs.Rows.{rows_of};
 ghost use Rattle.record.specs.Notice.{notice_text};
 ghost use Rattle.listing.specs.Listing.{disagreeing_thirds, counted, accepted_line, refused_line, listing};
 
-use body::{MOST_ROWS, Rows, latest_time};
-use fill::{put, put_number, told_behind};
+pub mod input;
+
+use body::{Rows, latest_time};
+use fill::{in_rest, put, put_number};
 use notice::read;
 use record::{Record, put_notice};
 use row::disagreements;
-use text::place;
 
 // Those of all rows together.
 fn disagreeing_thirds(r: Rows) -> u8
     ensures { result ≡ disagreeing_thirds (rows_of r) }
 {
-    let rows = r.rows;
-    let mut n: u8 = 0;
-    let mut i: u8 = 0;
-    while i < MOST_ROWS {
-        if r.count <= i {
-            return n;
-        }
-        let row = rows[i as usize];
+    let mut n = 0;
+    for &row in r.shown() {
         n += disagreements(row);
-        i += 1;
     }
     n
 }
@@ -45,13 +39,10 @@ fn put_counted(out: &mut [u8], at: usize, n: u8) -> usize
 fn put_accepted(out: &mut [u8], r: Record) -> usize
     ensures { Put 0 (accepted_line r) out.old out.new result }
 {
-    let rows = r.rows;
-    let items = r.items;
-    let disagreeing = disagreeing_thirds(rows);
     let at = put(out, 0, b"ACCEPTED");
-    let at = put_counted(out, at, rows.count);
-    let at = put_counted(out, at, items.count);
-    let at = put_counted(out, at, disagreeing);
+    let at = put_counted(out, at, r.rows.count);
+    let at = put_counted(out, at, r.items.count);
+    let at = put_counted(out, at, disagreeing_thirds(r.rows));
     put(out, at, b"\n")
 }
 
@@ -68,11 +59,8 @@ fn put_refused(out: &mut [u8], refusal: u8) -> usize
 fn notice_at(out: &mut [u8], at: usize, r: Record) -> usize
     ensures { Put at (notice_text r) out.old out.new result }
 {
-    let rows = r.rows;
-    let time = latest_time(rows);
-    let start = place(out, at);
-    let n = put_notice(&mut out[start..], r, time);
-    told_behind(out, at, n)
+    let time = latest_time(r.rows);
+    in_rest(out, at, |rest| put_notice(rest, r, time))
 }
 
 // Puts what the lister prints of a message, as far as the buffer goes, and answers its length.
@@ -83,7 +71,6 @@ pub fn list(message: &[u8], out: &mut [u8]) -> usize
     if a.refusal != 0 {
         return put_refused(out, a.refusal);
     }
-    let record = a.record;
-    let at = put_accepted(out, record);
-    notice_at(out, at, record)
+    let at = put_accepted(out, a.record);
+    notice_at(out, at, a.record)
 }

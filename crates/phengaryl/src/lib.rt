@@ -145,9 +145,7 @@ pub extern "C" fn phengaryl_radio_read(bytes: &[u8]) -> Radio
 pub extern "C" fn phengaryl_open(aerodrome: &[u8; 4], list: RunwayList) -> Answer
     ensures { result ≡ opening aerodrome.now list.count list.runways list.owners }
 {
-    let runways = list.runways;
-    let owners = list.owners;
-    open(*aerodrome, list.count, runways, owners)
+    open(*aerodrome, list.count, list.runways, list.owners)
 }
 
 // The board after a report of a row by a desk.

@@ -14,7 +14,7 @@ use Rattle.body.specs.Rows.{most_rows, make_rows, is_among}
 use Rattle.body.specs.Code.Held.{Kept}
 use Rattle.body.specs.Laws.Kept.{held, grown-rows, grown, none_kept}
 use Rattle.radio.specs.declared.Field.{Field}
-use Rattle.radio.specs.declared.Found.{Found}
+use Rattle.text.specs.declared.Found.{Found}
 use Rattle.radio.specs.declared.RowFound.{RowFound}
 use Rattle.radio.specs.Outcome.{Outcome, refuse, taken, next, need}
 use Rattle.radio.specs.Number.{Part, part, read_number}

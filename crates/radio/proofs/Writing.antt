@@ -21,7 +21,7 @@ use Rattle.radio.specs.Record.{each, row_bytes, is_count, radio_record, sendable
 use Rattle.radio.specs.Answers.{sending, written, filled, WroteRadio}
 use Rattle.radio.specs.Laws.Fields.{Filled, full, one, may-small, own-numbers}
 use Rattle.radio.specs.Laws.Record.{each_append, record_is}
-use Rattle.radio.specs.Code.Held.{as_written}
+use Rattle.text.specs.Code.Writes.{as_written}
 use Rattle.radio.proofs.Rows.{Here}
 
 -- behind the end there is nothing
@@ -60,9 +60,6 @@ pub field_put : (row : Row) (i : ℕ) (d : Field) → i < 15 → {x at b r : ℕ
     → PutFields row i at before now b → Put b (number_bytes x) now after r → PutFields row (i + 1) at before after r
 field_put row i d h {x} {at} {b} {r} {before} {now} {after} e p q =
     subst (λ t. Put at t before after r) (sym (numbers-more row order i d h)) (more p (rw e at q))
-
-pub fields-put : (row : Row) {i at r : ℕ} {before after : List ℕ} → i ≡ 15 → PutFields row i at before after r → Put at (row_bytes row) before after r
-fields-put row z p = rw z at p
 
 -- the rows of a record
 module _ (rows : List Row) (s : sendable rows ≡ true) where

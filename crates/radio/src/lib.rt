@@ -4,15 +4,16 @@
 
 ghost use Rattle.std.specs.Prelude.{◌≡◌, [], true, ◌+◌, ◌-◌, ◌*◌, ◌<◌, ◌≤◌, leb, length};
 ghost use Rattle.text.specs.Put.{Put};
+ghost use Rattle.text.specs.Code.Writes.{as_written};
 ghost use Rattle.runway.specs.Time.{real_time};
 ghost use Rattle.row.specs.Row.{valid_row};
-ghost use Rattle.body.specs.Rows.{most_rows, rows_of};
+ghost use Rattle.body.specs.Rows.{most_rows};
 ghost use Rattle.radio.specs.Number.{number_bytes, read_number};
 ghost use Rattle.radio.specs.Minutes.{year_minutes, days_in, date_of, minutes_of, time_of};
 ghost use Rattle.radio.specs.Fields.{number_of, may_be, fill};
 ghost use Rattle.radio.specs.Record.{row_bytes, sendable, read_row, read_rows, radio_record};
 ghost use Rattle.radio.specs.Answers.{answer, radio_reading, WroteRadio};
-ghost use Rattle.radio.specs.Code.Held.{of_row, HeldNumber, HeldRow, as_radio, as_written};
+ghost use Rattle.radio.specs.Code.Held.{of_row, HeldNumber, HeldRow, as_radio};
 
 use Field::{Code, Coverage, Depth, Description, Minutes, Runway, Width};
 use body::{MOST_ROWS, Rows, all_new, all_valid, blank_rows, is_among};
@@ -21,14 +22,14 @@ use row::{GREATEST_WIDTH, Row, blank_row, valid_row};
 use runway::days_of;
 use surface::GREATEST_DEPTH;
 use surface::description::DRY;
-use text::Written;
 use text::refusal::Refusal;
+use text::{Found, Written};
 
 // The rows of a record, or why they are none.
 #[repr(C)]
 #[derive(Clone, Copy)]
 pub struct Radio {
-    // 0 for a record that is read
+    // 0 for a record that is read; stays: C interface
     pub refusal: u8,
     pub rows: Rows,
 }
@@ -40,13 +41,6 @@ const MORE: u8 = 128;
 
 // A group holds a number below this.
 const GROUP: u32 = 128;
-
-// The number at the front of a record, and the place behind it.
-#[derive(Clone, Copy)]
-struct Found {
-    value: u32,
-    next: usize,
-}
 
 // The number of a group that has its high bit set and of the groups above it.
 fn above(group: u8, high: u32) -> u32
@@ -176,6 +170,7 @@ const LEAST_RUNWAY: u32 = 4;
 const GREATEST_RUNWAY: u32 = 75;
 
 // What the number alone may be.
+#[tactic(auto, using(text::specs::Laws::Tests::and_is))]
 fn may_be(field: Field, x: u32) -> bool
     ensures { result ≡ may_be field x }
 {
@@ -359,6 +354,7 @@ impl Sendable<'_> {
     }
 
     // The record fits into so many bytes: the longest is known, and only a shorter buffer is measured against the record.
+    // stays: tried; a closure that captures this list tells `fill::has_room` nothing of what it puts
     fn has_room(&self, room: usize) -> bool
         ensures { result ≡ leb (length (radio_record self.now.rows.now)) room }
     {
@@ -392,11 +388,5 @@ fn write_record(r: Rows, out: &mut [u8]) -> Result<usize, Refusal>
 pub fn write_radio(r: Rows, out: &mut [u8]) -> Written
     ensures { WroteRadio r out.old out.new result }
 {
-    match write_record(r, out) {
-        Ok(length) => Written { refusal: 0, length },
-        Err(refusal) => Written {
-            refusal: refusal.number(),
-            length: 0,
-        },
-    }
+    Written::from(write_record(r, out))
 }

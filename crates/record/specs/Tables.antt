@@ -1,8 +1,9 @@
 -- Parts that fit, and the blank record, evaluated.
-use Rattle.std.specs.Prelude.{ℕ, ◌≡◌, refl, List, [], ◌∷◌, map, replicate}
+use Rattle.std.specs.Prelude.{ℕ, ◌≡◌, refl, List, [], ◌∷◌, map, replicate, Ok, Err}
 use Prim.Native.String.{String}
 use Rattle.text.specs.Choice.{◌and◌}
 use Rattle.text.specs.Piece.{bytes}
+use Rattle.text.specs.declared.refusal.Refusal.TheVariants.{SerialsDiffer, AerodromesDiffer, NotLatestTime}
 use Rattle.runway.specs.Time.{later}
 use Rattle.row.specs.declared.Row.{Row}
 use Rattle.row.specs.Row.{blank_row}
@@ -35,12 +36,12 @@ over t s = record { time = t; number = 7; side = 1; thirds = blank_row.thirds; w
     ∷ record { time = s; number = 7; side = 3; thirds = blank_row.thirds; width = 0 } ∷ []
 
 pub record Parts : Type 0 where
-  agree : mismatch (front 7 7 "XQAA" 1120640) (rows_of one) ≡ 0
-  serials : map (λ n. mismatch (front 7 n "XQBB" 1120610) (rows_of one)) (6 ∷ 8 ∷ []) ≡ 10 ∷ 10 ∷ []
-  aerodromes : mismatch (front 7 7 "XQBB" 1120610) (rows_of one) ≡ 11
-  times : map (λ t. mismatch (front 7 7 "XQAA" t) (rows_of one)) (1120639 ∷ 1120641 ∷ []) ≡ 12 ∷ 12 ∷ []
+  agree : mismatch (front 7 7 "XQAA" 1120640) (rows_of one) ≡ Ok tt
+  serials : map (λ n. mismatch (front 7 n "XQBB" 1120610) (rows_of one)) (6 ∷ 8 ∷ []) ≡ Err SerialsDiffer ∷ Err SerialsDiffer ∷ []
+  aerodromes : mismatch (front 7 7 "XQBB" 1120610) (rows_of one) ≡ Err AerodromesDiffer
+  times : map (λ t. mismatch (front 7 7 "XQAA" t) (rows_of one)) (1120639 ∷ 1120641 ∷ []) ≡ Err NotLatestTime ∷ Err NotLatestTime ∷ []
   -- in season order
-  night : map (λ t. mismatch (front 7 7 "XQAA" t) (over 12312350 1010010)) (1010010 ∷ 12312350 ∷ []) ≡ 0 ∷ 12 ∷ []
+  night : map (λ t. mismatch (front 7 7 "XQAA" t) (over 12312350 1010010)) (1010010 ∷ 12312350 ∷ []) ≡ Ok tt ∷ Err NotLatestTime ∷ []
   -- "blank means all zero"
   blank : blank_record ≡ record {
     addresses = record { priority = 0; count = 0; letters = replicate 64 0 };

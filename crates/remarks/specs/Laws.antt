@@ -1,2 +1,3 @@
 pub mod Remarks
 pub mod Size
+pub mod Held

@@ -82,7 +82,7 @@ pub fn same_runway(a: Row, b: Row) -> bool
 #[repr(C)]
 #[derive(Clone, Copy)]
 pub struct Agreement {
-    // 0 for a row that is judged, else 19
+    // 0 for a row that is judged, else 19; stays: C interface
     pub refusal: u8,
     pub count: u8,
 }

@@ -12,7 +12,6 @@ use Rattle.rowtext.specs.Reading.{find_row, row_answer}
 use Rattle.rowtext.specs.Code.Filling.{parts, fill_group, fill_from, Filled}
 use Rattle.rowtext.specs.Laws.Filling.{filling-is}
 use Rattle.rowtext.specs.declared.Part.{Part}
-use Rattle.rowtext.specs.declared.Step.{Step}
 
 -- `gs` are left, to be read from the place `at` of the line into the row r
 module _ (l : List ℕ) (at : ℕ) (gs : List Part) (r : Row) (inv : fill_from gs r (drop at l) ≡ fill_from parts blank_row l) where
@@ -28,14 +27,14 @@ module _ (l : List ℕ) (at : ℕ) (gs : List Part) (r : Row) (inv : fill_from g
     pub within : at ≤ length l → (n : ℕ) → n ≤ length part → at + n ≤ length l
     within h n k = omega (arith, ap length p, length-drop at l)
 
-    pub step-on : {s : Step} → Filled part (fill_group g r part) (Ok s) → fill_from hs s.row (drop (at + s.next) l) ≡ fill_from parts blank_row l
+    pub step-on : {q : Row} {n : ℕ} → Filled (fill_group g) part r q (Ok n) → fill_from hs q (drop (at + n) l) ≡ fill_from parts blank_row l
     unfolding fill_from
-    step-on {s} f = rw (e, ← p, f.says, p, drop-drop s.next at l) at inv
+    step-on {n = n} f = rw (e, ← p, f.says, p, drop-drop n at l) at inv
 
-    pub way-off : {f : Fault} → at ≤ length l → Filled part (fill_group g r part) (Err f)
+    pub way-off : {q : Row} {f : Fault} → at ≤ length l → Filled (fill_group g) part r q (Err f)
         → Refused l (find_row l) (record { refusal = f.refusal; place = at + f.place })
     unfolding fill_from
-    way-off {f} h k = record {
+    way-off {f = f} h k = record {
       within = within h f.place k.within;
       says = rw (filling-is l, ← inv, e, ← p, k.says, p, drop-drop f.place at l);
     }

@@ -1,5 +1,5 @@
 -- One step of each reader of a row.
-use Rattle.std.specs.Prelude.{◌≡◌, ℕ, ◌<◌, ◌≤◌, Option, None, Some, Err, unwrap_or, Bool, true, false, eqb, leb, List, [], ◌∷◌, length, drop}
+use Rattle.std.specs.Prelude.{◌≡◌, ℕ, ◌<◌, ◌≤◌, Option, None, Some, Result, Err, unwrap_or, Bool, true, false, eqb, leb, List, [], ◌∷◌, length, drop}
 use Rattle.std.proofs.Common.{refl, ◌∙◌, get_or, drop-cons, drop_of_length-le, arith}
 use Rattle.text.specs.Choice.{◌and◌, all, is_empty}
 use Rattle.text.specs.Read.{Got, got, skip, read_if, read_gap}
@@ -40,8 +40,14 @@ some_left [] h = absurd (h refl)
 some_left (x ∷ m) h = refl
 
 -- the part that k should be is at fault
-pub faulted : {m k : List ℕ} {n : Refusal} {f : Fault} {o : Out (Row × List ℕ)} → FaultAt m k n f → o ≡ refuse (number n) (skip k) → Filled m o (Err f)
-faulted f q = record { within = f.place.within; says = rw (f.refused, f.place.left) q }
+pub faulted : (fill : Row → List ℕ → Out (Row × List ℕ)) {m k : List ℕ} {was : Row} {n : Refusal} {f : Fault} → FaultAt m k n f → fill was m ≡ refuse (number n) (skip k)
+    → Filled fill m was was (Err f)
+faulted fill f q = record { within = f.place.within; says = q ∙ rw (f.refused, f.place.left); kept = refl }
+
+-- the same of a reading that comes to another
+pub as_other : (fill other : Row → List ℕ → Out (Row × List ℕ)) {m : List ℕ} {was r : Row} {a : Result ℕ Fault} → fill was m ≡ other was m → Filled other m was r a
+    → Filled fill m was r a
+as_other fill other e h = record { within = h.within; says = e ∙ h.says; kept = h.kept }
 
 -- the groups that are read by themselves
 pub codes_alone : (m : List ℕ) → code_group m ≡ alone_group Codes m

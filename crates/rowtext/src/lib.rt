@@ -2,10 +2,9 @@
 
 #![tactic(auto)]
 
-ghost use Rattle.std.specs.Prelude.{◌≡◌, ◌≤◌, leb, length, drop, IfSome};
+ghost use Rattle.std.specs.Prelude.{◌≡◌, ◌≤◌, length, drop, MatchOption};
 ghost use Rattle.text.specs.Choice.{all};
 ghost use Rattle.text.specs.Piece.{canonical};
-ghost use Rattle.text.specs.Out.{taken};
 ghost use Rattle.text.specs.Put.{Put};
 ghost use Rattle.text.specs.Code.Held.{Held};
 ghost use Rattle.runway.specs.Code.Held.{HeldRunway};
@@ -16,9 +15,9 @@ ghost use Rattle.thirds.specs.Laws.Groups.{Shown};
 ghost use Rattle.rowtext.specs.Text.{field, group_of, middle_pieces, width_pieces, row_pieces};
 ghost use Rattle.rowtext.specs.Reading.{parted, each, time_group, runway_group, find_row, row_answer};
 ghost use Rattle.rowtext.specs.Writing.{row_text, WroteRow};
-ghost use Rattle.rowtext.specs.Code.Filling.{RowFound, with_number, with_group, with_rest, may_stand, alone_group, judged, full_rest, fill_group, Filled, FaultAt, HeldWidth};
+ghost use Rattle.rowtext.specs.Code.Filling.{RowFound, with_number, with_group, with_rest, may_stand, alone_group, full_rest, fill_group, Filled, FaultAt, Judged, HeldWidth};
 
-use fill::{put, put_digits};
+use fill::{has_room, put, put_digits};
 use row::{HIGHEST_RUNWAY, Row, blank_row, is_short, valid_row};
 use runway::{RunwayFound, put_runway, read_runway, real_time, valid_runway};
 use scan::{digits, spaces, word};
@@ -50,13 +49,7 @@ static PARTS: [Part; 5] = [
     Part::Width,
 ];
 
-// A row with one part more, and the place behind that part. Places, those of faults too, are counted within the part of the line that was handed
-// over.
-#[derive(Clone, Copy)]
-pub struct Step {
-    pub row: Row,
-    pub next: usize,
-}
+// Places are counted within the part of the line that is handed over.
 
 // A refusal of the part that should follow the place `at`: told at its first byte, or at the end where it is missing.
 fn fault(refusal: Refusal, s: &[u8], at: usize) -> Fault
@@ -82,19 +75,14 @@ fn time_group(s: &[u8]) -> Option<Found>
 
 // A time that is at fault is so at the line's first byte, whatever stands there.
 #[tactic(auto, unfolding(crate::specs::Code::Filling::fill_group))]
-fn time_into(row: Row, s: &[u8]) -> Result<Step, Fault>
-    ensures { Filled s.now (fill_group Part.Time row s.now) result }
+fn time_into(row: &mut Row, s: &[u8]) -> Result<usize, Fault>
+    ensures { Filled (fill_group Part.Time) s.now row.old row.new result }
 {
     let Some(time) = time_group(s) else {
         return Err(Refusal::NoRow.at(0));
     };
-    Ok(Step {
-        row: Row {
-            time: time.value,
-            ..row
-        },
-        next: time.next,
-    })
+    row.time = time.value;
+    Ok(time.next)
 }
 
 #[tactic(auto, unfolding(crate::specs::Reading::runway_group))]
@@ -107,20 +95,15 @@ fn runway_group(s: &[u8]) -> Option<RunwayFound>
 }
 
 #[tactic(auto, unfolding(crate::specs::Code::Filling::fill_group))]
-fn runway_into(row: Row, s: &[u8]) -> Result<Step, Fault>
-    ensures { Filled s.now (fill_group Part.Runway row s.now) result }
+fn runway_into(row: &mut Row, s: &[u8]) -> Result<usize, Fault>
+    ensures { Filled (fill_group Part.Runway) s.now row.old row.new result }
 {
     let Some(runway) = runway_group(s) else {
         return Err(fault(Refusal::WrongRunway, s, 0));
     };
-    Ok(Step {
-        row: Row {
-            number: runway.number,
-            side: runway.side,
-            ..row
-        },
-        next: runway.next,
-    })
+    row.number = runway.number;
+    row.side = runway.side;
+    Ok(runway.next)
 }
 
 // What a number of a group may be whatever its description is.
@@ -189,16 +172,14 @@ fn with_group(group: Group, row: Row, numbers: [u32; 3]) -> Row
 }
 
 #[tactic(auto, using(crate::proofs::Steps::codes_alone), unfolding(crate::specs::Code::Filling::fill_group))]
-fn codes_into(row: Row, s: &[u8]) -> Result<Step, Fault>
-    ensures { Filled s.now (fill_group Part.Codes row s.now) result }
+fn codes_into(row: &mut Row, s: &[u8]) -> Result<usize, Fault>
+    ensures { Filled (fill_group Part.Codes) s.now row.old row.new result }
 {
     let Some(codes) = alone_group(Group::Codes, s, 0) else {
         return Err(fault(Refusal::WrongCodes, s, 0));
     };
-    Ok(Step {
-        row: with_group(Group::Codes, row, codes.numbers),
-        next: codes.next,
-    })
+    *row = with_group(Group::Codes, *row, codes.numbers);
+    Ok(codes.next)
 }
 
 // The row with coverages, depths and descriptions.
@@ -224,9 +205,8 @@ fn valid_depths(row: Row) -> bool
 }
 
 // A number that its description forbids can be told only once all three groups are read.
-fn judged(row: Row, s: &[u8], depths: usize, next: usize) -> Result<Step, Fault>
-    requires { next ≤ length s.now }
-    ensures { Filled s.now (judged row.thirds s.now (drop depths s.now) (taken (row, drop next s.now))) result }
+fn judged(row: Row, s: &[u8], depths: usize) -> Result<(), Fault>
+    ensures { Judged row.thirds s.now (drop depths s.now) result }
 {
     if !valid_coverages(row) {
         return Err(fault(Refusal::WrongCoverageOrDepth, s, 0));
@@ -234,20 +214,21 @@ fn judged(row: Row, s: &[u8], depths: usize, next: usize) -> Result<Step, Fault>
     if !valid_depths(row) {
         return Err(fault(Refusal::WrongCoverageOrDepth, s, depths));
     }
-    Ok(Step { row, next })
+    Ok(())
 }
 
 // Coverages, depths and descriptions of a row that is taken: read once, and without the tests that their judgement implies. Where it refuses,
 // `full_fault` tells what is at fault.
-fn full_into(row: Row, s: &[u8]) -> Option<Step>
-    ensures { IfSome result (λ t. Filled s.now (full_rest row s.now) (Ok t)) }
+fn full_into(row: &mut Row, s: &[u8]) -> Option<usize>
+    ensures { MatchOption result (row.new ≡ row.old) (λ next. Filled full_rest s.now row.old row.new (Ok next)) }
 {
     let v = read_group(Group::Coverages, s, 0)?;
     let d = read_group(Group::Depths, s, v.next)?;
     let k = read_group(Group::Descriptions, s, d.next)?;
-    let row = with_rest(row, v.numbers, d.numbers, k.numbers);
-    if valid_coverages(row) && valid_depths(row) {
-        Some(Step { row, next: k.next })
+    let filled = with_rest(*row, v.numbers, d.numbers, k.numbers);
+    if valid_coverages(filled) && valid_depths(filled) {
+        *row = filled;
+        Some(k.next)
     } else {
         None
     }
@@ -255,8 +236,8 @@ fn full_into(row: Row, s: &[u8]) -> Option<Step>
 
 // The same group by group, each by itself, so that the first at fault is told.
 #[tactic(auto, using(crate::proofs::Steps::coverages_alone, crate::proofs::Steps::depths_alone), unfolding(crate::specs::Code::Filling::full_rest, crate::specs::Reading::description_group))]
-fn full_fault(row: Row, s: &[u8]) -> Result<Step, Fault>
-    ensures { Filled s.now (full_rest row s.now) result }
+fn full_fault(row: &mut Row, s: &[u8]) -> Result<usize, Fault>
+    ensures { Filled full_rest s.now row.old row.new result }
 {
     let Some(v) = alone_group(Group::Coverages, s, 0) else {
         return Err(fault(Refusal::WrongCoverageOrDepth, s, 0));
@@ -267,8 +248,10 @@ fn full_fault(row: Row, s: &[u8]) -> Result<Step, Fault>
     let Some(k) = read_group(Group::Descriptions, s, d.next) else {
         return Err(fault(Refusal::WrongDescriptions, s, d.next));
     };
-    let row = with_rest(row, v.numbers, d.numbers, k.numbers);
-    judged(row, s, v.next, k.next)
+    let filled = with_rest(*row, v.numbers, d.numbers, k.numbers);
+    judged(filled, s, v.next)?;
+    *row = filled;
+    Ok(k.next)
 }
 
 // 01 to 99 behind a gap, or 0 for none.
@@ -287,26 +270,22 @@ const ALL_NR: [u32; 3] = [NR; 3];
 
 // Coverages, depths and descriptions, or all that is left of a short row: its descriptions with nothing but a width behind them, which is read
 // here and not again. A row whose coverages and depths fit is not short, so that the full form may be tried first.
-fn rest_into(row: Row, s: &[u8]) -> Result<Step, Fault>
-    ensures { Filled s.now (fill_group Part.Rest row s.now) result }
+fn rest_into(row: &mut Row, s: &[u8]) -> Result<usize, Fault>
+    ensures { Filled (fill_group Part.Rest) s.now row.old row.new result }
 {
-    if let Some(full) = full_into(row, s) {
-        return Ok(full);
+    if let Some(next) = full_into(row, s) {
+        return Ok(next);
     }
     if let Some(k) = read_group(Group::Descriptions, s, 0) {
         let w = width(s, k.next);
         if s.len() <= w.next {
-            let t = with_rest(row, ALL_NR, ALL_NR, k.numbers);
-            if !is_short(t) {
+            let short = with_rest(*row, ALL_NR, ALL_NR, k.numbers);
+            if !is_short(short) {
                 return Err(fault(Refusal::WrongCoverageOrDepth, s, 0));
             }
-            return Ok(Step {
-                row: Row {
-                    width: w.value as u8,
-                    ..t
-                },
-                next: w.next,
-            });
+            *row = short;
+            row.width = w.value as u8;
+            return Ok(w.next);
         }
     }
     full_fault(row, s)
@@ -314,29 +293,24 @@ fn rest_into(row: Row, s: &[u8]) -> Result<Step, Fault>
 
 // The width, and nothing behind it. Where nothing is left, there is none, or a short row has it already.
 #[tactic(auto, unfolding(crate::specs::Code::Filling::fill_group))]
-fn width_into(row: Row, s: &[u8]) -> Result<Step, Fault>
-    ensures { Filled s.now (fill_group Part.Width row s.now) result }
+fn width_into(row: &mut Row, s: &[u8]) -> Result<usize, Fault>
+    ensures { Filled (fill_group Part.Width) s.now row.old row.new result }
 {
     if s.is_empty() {
-        return Ok(Step { row, next: 0 });
+        return Ok(0);
     }
     let w = width(s, 0);
     if s.len() <= w.next {
-        return Ok(Step {
-            row: Row {
-                width: w.value as u8,
-                ..row
-            },
-            next: w.next,
-        });
+        row.width = w.value as u8;
+        return Ok(w.next);
     }
     // what follows it, or what is glued to it
     let at = if parted(s, w.next) { w.next } else { 0 };
     Err(fault(Refusal::WrongWidth, s, at))
 }
 
-fn part_into(part: Part, row: Row, s: &[u8]) -> Result<Step, Fault>
-    ensures { Filled s.now (fill_group part row s.now) result }
+fn part_into(part: Part, row: &mut Row, s: &[u8]) -> Result<usize, Fault>
+    ensures { Filled (fill_group part) s.now row.old row.new result }
 {
     match part {
         Part::Time => time_into(row, s),
@@ -358,11 +332,8 @@ pub fn find_row(line: &[u8]) -> Result<Row, Fault>
         let Some(&part) = parts.next() else {
             break 'parts Ok(row);
         };
-        match part_into(part, row, &line[at..]) {
-            Ok(step) => {
-                row = step.row;
-                at += step.next;
-            }
+        match part_into(part, &mut row, &line[at..]) {
+            Ok(next) => at += next,
             Err(fault) => break 'parts Err(fault.refusal.at(at + fault.place)),
         }
     }
@@ -371,7 +342,7 @@ pub fn find_row(line: &[u8]) -> Result<Row, Fault>
 #[repr(C)]
 #[derive(Clone, Copy)]
 pub struct RowRead {
-    // 0 for a row that is taken, else 5 or 24 to 28
+    // 0 for a row that is taken, else 5 or 24 to 28; stays: C interface
     pub refusal: u8,
     // the first byte of the group at fault, 0 for a row that is taken
     pub place: usize,
@@ -458,26 +429,12 @@ pub fn put_any_row(rest: &mut [u8], row: Row) -> usize
 // No row has a longer text.
 pub const LONGEST_ROW: usize = 147;
 
-// How many bytes the row's text has.
-fn row_size(row: Row) -> usize
-    ensures { result ≡ length (canonical (row_pieces row)) }
-{
-    put_any_row(&mut [0; 1], row)
-}
-
-// The row's text fits into so many bytes: the longest is known, and only a shorter rest is measured against the text.
-fn has_room(room: usize, row: Row) -> bool
-    ensures { result ≡ leb (length (canonical (row_pieces row))) room }
-{
-    LONGEST_ROW <= room || row_size(row) <= room
-}
-
 // Writes the row into the rest of a buffer and answers how many bytes it filled.
 // A row that is not valid or does not fit leaves every byte as it was: 0.
 pub fn write_row(rest: &mut [u8], row: Row) -> usize
     ensures { WroteRow (row_text row) rest.old rest.new result }
 {
-    if !valid_row(row) || !has_room(rest.len(), row) {
+    if !valid_row(row) || !has_room(rest.len(), LONGEST_ROW, |out| put_any_row(out, row)) {
         return 0;
     }
     put_any_row(rest, row)

@@ -128,6 +128,7 @@ pub fn read_runway(s: &[u8], i: usize) -> Option<RunwayFound>
 fn put_side(out: &mut [u8], at: usize, side: u8) -> usize
     ensures { Put at (canonical (spell (side_name side))) out.old out.new result }
 {
+    // stays: C interface: the side is a number
     match side {
         1 => put(out, at, b"L"),
         2 => put(out, at, b"C"),

@@ -38,6 +38,7 @@ fn far_spaces(s: &[u8], i: usize) -> usize
     ensures { Reached s.now (skip (drop i s.now)) result }
 {
     let mut j = place(s, i);
+    // stays: no plainer: both loops step by more than one, and the place is what is wanted
     while block_passes(s, j, |b| b == SPACE) {
         j += BLOCK;
     }

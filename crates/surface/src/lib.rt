@@ -50,7 +50,7 @@ pub struct Observation {
 #[repr(C)]
 #[derive(Clone, Copy)]
 pub struct Assessment {
-    // 0 for an observation that is taken
+    // 0 for an observation that is taken; stays: C interface
     pub refusal: u8,
     pub third: Third,
 }

@@ -12,6 +12,10 @@ use Rattle.text.specs.Put.{told, farthest}
 use Rattle.text.specs.Arrays.{pad, slots, past_slots, flat}
 use Rattle.text.specs.declared.Class.TheVariants.{Letters, Names}
 use Rattle.text.specs.declared.Found.{Found}
+use Rattle.std.specs.Prelude.{Ok, Err}
+use Rattle.text.specs.Refusals.{number as refusal_number}
+use Rattle.text.specs.Code.Writes.{as_written}
+use Rattle.text.specs.declared.refusal.Refusal.TheVariants.{TooLong, Line1Or2, Line3, Outline, NoRow, NinthRow, RunwayTwice, WrongItems, WrongLanguage, SerialsDiffer, AerodromesDiffer, NotLatestTime, InvalidRecord, BufferTooShort, OutOfRange, Contradiction, WrongBoard, NotOnBoard, InvalidRow, NotLater, NoReport, OthersRunway, NoDesk, WrongRunway, WrongCodes, WrongCoverageOrDepth, WrongDescriptions, WrongWidth, RunwaysDiffer, RecordCutShort, NumberForm, RadioValue}
 
 -- the bytes below n that are of a class, from the highest down
 unfoldable pub class_below : ℕ → (ℕ → Bool) → List ℕ
@@ -165,3 +169,13 @@ pub record Nothing : Type 0 where
 
 pub nothing : Nothing
 nothing = record { found = refl; none = refl; bytes = refl; end = refl; no_end = refl }
+
+-- document 01's numbers, and what C is told of a writing
+pub record Numbered : Type 0 where
+  pub refusals : map refusal_number (TooLong ∷ Line1Or2 ∷ Line3 ∷ Outline ∷ NoRow ∷ NinthRow ∷ RunwayTwice ∷ WrongItems ∷ WrongLanguage ∷ SerialsDiffer ∷ AerodromesDiffer ∷ NotLatestTime ∷ InvalidRecord ∷ BufferTooShort ∷ OutOfRange ∷ Contradiction ∷ WrongBoard ∷ NotOnBoard ∷ InvalidRow ∷ NotLater ∷ NoReport ∷ OthersRunway ∷ NoDesk ∷ WrongRunway ∷ WrongCodes ∷ WrongCoverageOrDepth ∷ WrongDescriptions ∷ WrongWidth ∷ RunwaysDiffer ∷ RecordCutShort ∷ NumberForm ∷ RadioValue ∷ [])
+      ≡ 1 ∷ 2 ∷ 3 ∷ 4 ∷ 5 ∷ 6 ∷ 7 ∷ 8 ∷ 9 ∷ 10 ∷ 11 ∷ 12 ∷ 13 ∷ 14 ∷ 15 ∷ 16 ∷ 17 ∷ 18 ∷ 19 ∷ 20 ∷ 21 ∷ 22 ∷ 23 ∷ 24 ∷ 25 ∷ 26 ∷ 27 ∷ 28 ∷ 29 ∷ 30 ∷ 31 ∷ 32 ∷ []
+  pub taken : as_written (Ok 7) ≡ record { refusal = 0; length = 7 }
+  pub refused : as_written (Err InvalidRow) ≡ record { refusal = 19; length = 0 }
+
+pub numbered : Numbered
+numbered = record { refusals = refl; taken = refl; refused = refl }

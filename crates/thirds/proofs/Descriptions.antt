@@ -1,47 +1,21 @@
 -- The descriptions tried one after the other, those that can stand by their first byte, and their bytes.
-use Rattle.std.specs.Prelude.{◌≡◌, ℕ, zero, suc, ◌<◌, ◌≤◌, Option, None, Some, MatchOption, Bool, true, false, cond, eqb, List, [], ◌∷◌, length, drop, filter, slice_index}
-use Rattle.std.proofs.Common.{refl, ◌∙◌, ap, arith, get_or, eqb-true, drop-cons, drop_of_length-le}
+use Rattle.std.specs.Prelude.{◌≡◌, ℕ, suc, ◌<◌, ◌≤◌, Bool, true, false, cond, eqb, List, [], ◌∷◌, length, drop, filter}
+use Rattle.std.proofs.Common.{refl, ◌∙◌, ap, get_or, eqb-true, ne_eqb, sym, drop-cons, drop_of_length-le}
 use Rattle.text.specs.Piece.{gap, byte, canonical, canonical1, spell}
 use Rattle.text.specs.Read.{Got, misfit, or_else, read_text, read_word}
 use Rattle.text.specs.Names.{read_name}
-use Rattle.text.specs.Code.Held.{Held}
 use Rattle.text.specs.Laws.Base.{true-false}
-use Rattle.text.specs.Laws.Held.{missed}
-use Rattle.text.specs.declared.Found.{Found}
 use Rattle.surface.specs.Descriptions.{description_name}
 use Rattle.thirds.specs.Groups.{description_order, read_description}
 use Rattle.thirds.specs.Code.Begin.{can, beginning}
 
 -- the description d alone
-abbrev one : ℕ → List ℕ → Got ℕ
+abbrev pub one : ℕ → List ℕ → Got ℕ
 one d = read_word (description_name d) d
 
 -- the first of several
 abbrev one_of : List ℕ → List ℕ → Got ℕ
 one_of = read_name description_name
-
-module _ (m k : List ℕ) where
-  -- the description at the place j does not stand there
-  abbrev Missed : List ℕ → ℕ → Type 0
-  Missed ds j = Held m (one (slice_index ds j) k) None
-
-  pub none_of : (ds : List ℕ) → ((j : ℕ) → j < length ds → Missed ds j) → Held m (one_of ds k) None
-  unfolding read_name
-  none_of [] h = missed refl
-  none_of (d ∷ ds) h = rw (h 0 (omega arith)).says (none_of ds (λ j l. h (suc j) (omega arith)))
-
-  pub first_of : (ds : List ℕ) (i : ℕ) {f : Found} → i < length ds → Held m (one (slice_index ds i) k) (Some f) → ((j : ℕ) → j < i → Missed ds j)
-      → Held m (one_of ds k) (Some f)
-  unfolding read_name
-  first_of [] i l h b = absurd (omega arith)
-  first_of (d ∷ ds) zero l h b = record { within = h.within; says = rw h.says }
-  first_of (d ∷ ds) (suc i) l h b = rw (b 0 (omega arith)).says (first_of ds i (omega arith) h (λ j q. b (suc j) (omega arith)))
-
-  -- what `find_map` answers
-  pub found : (ds : List ℕ) (r : Option Found) → MatchOption r ((j : ℕ) → j < length ds → Missed ds j)
-      (λ f. (i : ℕ) × (i < length ds) × Held m (one (slice_index ds i) k) (Some f) × ((j : ℕ) → j < i → Missed ds j)) → Held m (one_of ds k) r
-  found ds None h = none_of ds h
-  found ds (Some f) h = first_of ds h.0 h.1 h.2 h.3
 
 module _ (b : ℕ) (k : List ℕ) where
   cannot : (t : List ℕ) (v : ℕ) → can b t ≡ false → read_word t v (b ∷ k) ≡ misfit
@@ -63,16 +37,24 @@ module _ (b : ℕ) (k : List ℕ) where
       go false e = rw (cannot (description_name d) d e)
 
 -- the byte at i says which descriptions can stand there
-pub by_byte : (m : List ℕ) (i b : ℕ) {r : Option Found} → i < length m → get_or m i 0 ≡ b → Held m (one_of (beginning b) (drop i m)) r → Held m (read_description (drop i m)) r
+pub by_byte : (m : List ℕ) (i b : ℕ) → i < length m → get_or m i 0 ≡ b → read_description (drop i m) ≡ read_name description_name (beginning b) (drop i m)
 unfolding beginning read_description
-by_byte m i b l e q =
+by_byte m i b l e =
     let z : drop i m ≡ b ∷ drop (suc i) m = drop-cons m i 0 l ∙ ap (λ (c : ℕ). c ∷ drop (suc i) m) e in
-    rw (z, only b (drop (suc i) m) description_order) (rw z at q)
+    rw (z, only b (drop (suc i) m) description_order)
+
+-- none begins by any other byte than these
+pub none_begins : (b : ℕ) → (b ≡ 78 → ⊥) → (b ≡ 67 → ⊥) → (b ≡ 68 → ⊥) → (b ≡ 70 → ⊥) → (b ≡ 73 → ⊥) → (b ≡ 83 → ⊥) → (b ≡ 87 → ⊥) → beginning b ≡ []
+unfolding beginning
+none_begins b n c d f i s w = rw (other 78 n, other 67 c, other 68 d, other 70 f, other 73 i, other 83 s, other 87 w)
+  where
+    other : (x : ℕ) → (b ≡ x → ⊥) → eqb x b ≡ false
+    other x h = ne_eqb x b (λ q. h (sym q))
 
 -- nothing stands at the end
-pub by_end : (m : List ℕ) (i : ℕ) → length m ≤ i → Held m (read_description (drop i m)) None
+pub by_end : (m : List ℕ) (i : ℕ) → length m ≤ i → read_description (drop i m) ≡ misfit
 unfolding read_description read_name read_text
-by_end m i h = rw (drop_of_length-le m h) (missed refl)
+by_end m i h = rw (drop_of_length-le m h)
 
 -- the bytes of a fixed text
 pub spelled : (cs : List ℕ) → canonical (spell cs) ≡ cs

@@ -12,7 +12,7 @@ ghost use Rattle.text.specs.Put.{Put};
 ghost use Rattle.surface.specs.Descriptions.{description_name};
 ghost use Rattle.thirds.specs.Groups.{measure_pieces, read_measure, read_coverage, description_pieces, read_description, third_pieces, read_third, group_pieces, read_group};
 ghost use Rattle.thirds.specs.Code.Begin.{beginning};
-ghost use Rattle.thirds.specs.Code.Held.{HeldThree, three};
+ghost use Rattle.thirds.specs.Code.Held.{HeldThree, three, joint_text};
 
 use fill::{put, put_digits};
 use scan::{digits, word};
@@ -68,48 +68,32 @@ fn name(d: u32) -> &'static [u8]
     NAMES.get(d as usize).copied().unwrap_or(b"")
 }
 
-// The descriptions that begin by a byte, a longer one before each that it begins with.
-#[tactic(auto, unfolding(crate::specs::Code::Begin::beginning))]
-fn beginning(b: u8) -> &'static [u8]
-    ensures { result.now ≡ beginning b }
-{
-    match b {
-        b'N' => &[NR],
-        b'C' => &[COMPACTED_SNOW],
-        b'D' => &[DRY_SNOW_ON_COMPACTED_SNOW, DRY_SNOW_ON_ICE, DRY_SNOW, DRY],
-        b'F' => &[FROST],
-        b'I' => &[ICE],
-        b'S' => &[SLUSH, STANDING_WATER],
-        b'W' => &[
-            WATER_ON_COMPACTED_SNOW,
-            WET_SNOW_ON_COMPACTED_SNOW,
-            WET_SNOW_ON_ICE,
-            WET_SNOW,
-            WET_ICE,
-            WET,
-        ],
-        _ => &[],
-    }
-}
-
 // ---- Reading
 
-// The first of some descriptions that stands at `i`.
-fn first_of(ds: &[u8], s: &[u8], i: usize) -> Option<Found>
-    ensures { Held s.now (read_name description_name ds.now (drop i s.now)) result }
-{
-    ds.iter().find_map(|&d| {
-        let d = u32::from(d);
-        word(s, i, name(d), d)
-    })
-}
-
-// The byte that stands there says which descriptions can.
+// The byte that stands there says which descriptions can; a longer one is tried before each that it begins with.
+#[tactic(auto, using(crate::proofs::Descriptions::by_byte, crate::proofs::Descriptions::by_end), unfolding(crate::specs::Code::Begin::beginning, text::specs::Names::read_name))]
 fn description(s: &[u8], i: usize) -> Option<Found>
     ensures { Held s.now (read_description (drop i s.now)) result }
 {
-    let &b = s.get(i)?;
-    first_of(beginning(b), s, i)
+    let at = |d: u8| word(s, i, name(u32::from(d)), u32::from(d));
+    match s.get(i)? {
+        b'N' => at(NR),
+        b'C' => at(COMPACTED_SNOW),
+        b'D' => at(DRY_SNOW_ON_COMPACTED_SNOW)
+            .or_else(|| at(DRY_SNOW_ON_ICE))
+            .or_else(|| at(DRY_SNOW))
+            .or_else(|| at(DRY)),
+        b'F' => at(FROST),
+        b'I' => at(ICE),
+        b'S' => at(SLUSH).or_else(|| at(STANDING_WATER)),
+        b'W' => at(WATER_ON_COMPACTED_SNOW)
+            .or_else(|| at(WET_SNOW_ON_COMPACTED_SNOW))
+            .or_else(|| at(WET_SNOW_ON_ICE))
+            .or_else(|| at(WET_SNOW))
+            .or_else(|| at(WET_ICE))
+            .or_else(|| at(WET)),
+        _ => None,
+    }
 }
 
 // Two digits, and three from 100 on.
@@ -149,26 +133,27 @@ fn third(group: Group, s: &[u8], i: usize) -> Option<Found>
     }
 }
 
-// A third behind the text that parts it from what stands before it.
-fn third_behind(joint: &[u8], group: Group, s: &[u8], i: usize) -> Option<Found>
-    ensures { Held s.now (read_after joint.now (read_third group) (drop i s.now)) result }
+// The third at the place `k` of a group, behind what parts it from what stands before it: a gap the first, `/` each other.
+fn third_behind(k: usize, group: Group, s: &[u8], i: usize) -> Option<Found>
+    ensures { Held s.now (read_after (joint_text k) (read_third group) (drop i s.now)) result }
 {
+    let joint: &[u8] = if k == 0 { b" " } else { b"/" };
     let f = word(s, i, joint, 0)?;
     third(group, s, f.next)
 }
 
-// The numbers of a group of thirds that stands at `i` behind a gap.
-#[tactic(auto, using(crate::proofs::Joints::thirds))]
+// The numbers of a group of thirds that stands at `i` behind a gap. One loop reads all three, so that the code for a third stands once and without a call.
 pub fn read_group(group: Group, s: &[u8], i: usize) -> Option<Trio>
     ensures { HeldThree s.now (read_group group (drop i s.now)) result }
 {
-    let a = third_behind(b" ", group, s, i)?;
-    let b = third_behind(b"/", group, s, a.next)?;
-    let c = third_behind(b"/", group, s, b.next)?;
-    Some(Trio {
-        numbers: [a.value, b.value, c.value],
-        next: c.next,
-    })
+    let mut numbers = [0; 3];
+    let mut next = i;
+    for k in 0..3 {
+        let found = third_behind(k, group, s, next)?;
+        numbers[k] = found.value;
+        next = found.next;
+    }
+    Some(Trio { numbers, next })
 }
 
 // ---- Writing

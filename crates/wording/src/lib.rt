@@ -23,6 +23,7 @@ use text::Class;
 fn put_edge(out: &mut [u8], at: usize, edge: u8) -> usize
     ensures { Put at (canonical (spell (edge_name edge))) out.old out.new result }
 {
+    // stays: C interface: the edge is a number
     match edge {
         1 => put(out, at, &words::L),
         2 => put(out, at, &words::R),

@@ -1,5 +1,4 @@
-use Rattle.std.proofs.Common.{sym, subst, take, take_all, ◌∙◌, length, arith}
-use Rattle.text.specs.Put.{Put}
+use Rattle.std.proofs.Common.{rules}
 use Rattle.text.specs.Lines.{under}
 use Rattle.text.specs.Laws.Put.{nothing_put, more}
 use Rattle.body.proofs.Loops.{text-next}
@@ -10,5 +9,4 @@ unfolding under
 loop-row-init c = nothing_put c.args.out.now c.told_behind-behind.ensures
 
 pub loop-row-preserved : goal.loop-row-preserved
-loop-row-preserved c = rw (text-next c.shown-row-items.result.now c.loop-row.row-index c.loop-row-test.true) (more c.loop-row.invariant (more c.put-line.ensures c.row_at-behind.ensures))
-
+loop-row-preserved c = rw (text-next c.shown-row-items.result.now c.loop-row.row-index c.loop-row-test.true) (more c.loop-row.invariant (search rules))

@@ -1,13 +1,26 @@
--- The promise of reading the rows leaves no choice.
-use Rattle.std.specs.Prelude.{ℕ, suc, ◌≡◌, refl, List, [], cond, Bool, true, false, eqb, length, drop}
-use Rattle.std.proofs.Common.{sym, ◌∙◌, ap, length-drop, eqb-true, arith}
+-- The promises of reading leave no choice.
+use Rattle.std.specs.Prelude.{ℕ, suc, ◌≡◌, refl, List, cond, Bool, true, false, Result, Ok, Err, drop}
+use Rattle.std.proofs.Common.{sym, ◌∙◌, ap, arith}
+use Rattle.text.specs.declared.refusal.Fault.{Fault}
 use Rattle.text.specs.Lines.{Cut, cuts, lines_size}
+use Rattle.text.specs.Out.{finished, more}
+use Rattle.text.specs.Laws.Out.{took}
+use Rattle.text.specs.Laws.Refusals.{fault-one, refused-taken}
+use Rattle.row.specs.declared.Row.{Row}
 use Rattle.body.specs.declared.Rows.{Rows}
-use Rattle.body.specs.declared.RowsRead.{RowsRead}
-use Rattle.text.specs.Out.{refuse, taken, finished, more}
-use Rattle.body.specs.Rows.{most_rows, rows_of, make_rows, Block, block, read_rows}
-use Rattle.body.specs.Code.Held.{no_rows, RowsHeld}
-use Rattle.text.specs.Laws.Out.{no-refuse, refused-left, took}
+use Rattle.body.specs.declared.RowLine.{RowLine}
+use Rattle.body.specs.declared.RowsFound.{RowsFound}
+use Rattle.body.specs.Rows.{rows_of, make_rows, Block}
+use Rattle.body.specs.Code.Held.{LineHeld, RowsTaken, RowsHeld}
+
+pub line-one : (l : List ℕ) (r s : Result RowLine Fault) → LineHeld l r → LineHeld l s → r ≡ s
+line-one l (Ok r) (Ok s) p q =
+    let row = took (λ (x : Row). r.row ≡ x) (sym p.says ∙ q.says) refl in
+    let closed = p.closes ∙ sym q.closes in
+    ap Ok (λ i. record { row = row i; closed = closed i })
+line-one l (Ok r) (Err g) p q = refused-taken q p.says
+line-one l (Err f) (Ok s) p q = refused-taken p q.says
+line-one l (Err f) (Err g) p q = ap Err (fault-one p q)
 
 -- `)` and an empty line are told apart
 one_end : (a b : Bool) (cs ds : List Cut) → cond a finished (more cs) ≡ cond b finished (more ds) → a ≡ b
@@ -16,40 +29,19 @@ one_end false false cs ds e = refl
 one_end true false cs ds e = let z : ◌≡◌ {A = ℕ} 0 1 = cc in absurd (omega arith)
 one_end false true cs ds e = let z : ◌≡◌ {A = ℕ} 0 1 = cc in absurd (omega arith)
 
-module _ (m : List ℕ) (r : RowsRead) (h : RowsHeld m r) where
-  took-rows : r.refusal ≡ 0 → read_rows most_rows [] (cuts m) ≡ taken (block (rows_of r.rows) (cond r.closed finished (more (cuts (drop r.next m)))))
-  took-rows z = h.says ∙ rw z
+taken-one : {m : List ℕ} {r s : RowsFound} → RowsTaken m r → RowsTaken m s → r ≡ s
+taken-one {m} {r} {s} p q =
+    let t = sym p.says ∙ q.says in
+    let rs = took (λ (b : Block). rows_of r.rows ≡ b.rows) t refl in
+    let end = took (λ (b : Block). cond r.closed finished (more (cuts (drop r.next m))) ≡ b.after) t refl in
+    let closed = one_end r.closed s.closed (cuts (drop r.next m)) (cuts (drop s.next m)) end in
+    let rows = p.kept.zeros ∙ ap make_rows rs ∙ sym q.kept.zeros in
+    let next = p.behind ∙ ap (λ (v : Rows). cond r.closed 0 (lines_size (suc v.count) m)) rows
+    ∙ ap (λ (b : Bool). cond b 0 (lines_size (suc s.rows.count) m)) closed ∙ sym q.behind in
+    λ i. record { rows = rows i; closed = closed i; next = next i }
 
-  refused-rows : eqb r.refusal 0 ≡ false → read_rows most_rows [] (cuts m) ≡ refuse r.refusal (drop r.place m)
-  refused-rows e = h.says ∙ rw e
-
-  blank-rows : eqb r.refusal 0 ≡ false → r ≡ no_rows r.refusal r.place
-  blank-rows e = h.blank ∙ rw e
-
-  placed : r.refusal ≡ 0 → r.next ≡ cond r.closed 0 (lines_size (suc r.rows.count) m)
-  placed z = h.behind ∙ rw z
-
-  given : r.refusal ≡ 0 → r ≡ record { refusal = 0; place = 0; rows = r.rows; closed = r.closed; next = r.next }
-  given z = h.blank ∙ rw z
-
-pub rows-one : (m : List ℕ) (r s : RowsRead) → RowsHeld m r → RowsHeld m s → r ≡ s
-rows-one m r s p q = go (eqb r.refusal 0) refl (eqb s.refusal 0) refl
-  where
-    go : (a : Bool) → eqb r.refusal 0 ≡ a → (b : Bool) → eqb s.refusal 0 ≡ b → r ≡ s
-    go true e true f =
-        let x = eqb-true r.refusal 0 e in
-        let y = eqb-true s.refusal 0 f in
-        let t = sym (took-rows m r p x) ∙ took-rows m s q y in
-        let rs = took (λ (b : Block). rows_of r.rows ≡ b.rows) t refl in
-        let en = took (λ (b : Block). cond r.closed finished (more (cuts (drop r.next m))) ≡ b.after) t refl in
-        let c = one_end r.closed s.closed (cuts (drop r.next m)) (cuts (drop s.next m)) en in
-        let rows : r.rows ≡ s.rows = p.kept.zeros ∙ ap make_rows rs ∙ sym q.kept.zeros in
-        let n : r.next ≡ s.next = placed m r p x ∙ ap (λ (v : Rows). cond r.closed 0 (lines_size (suc v.count) m)) rows
-        ∙ ap (λ (b : Bool). cond b 0 (lines_size (suc s.rows.count) m)) c ∙ sym (placed m s q y) in
-        given m r p x ∙ (λ i. record { refusal = 0; place = 0; rows = rows i; closed = c i; next = n i }) ∙ sym (given m s q y)
-    go true e false f = no-refuse (sym (refused-rows m s q f) ∙ took-rows m r p (eqb-true r.refusal 0 e))
-    go false e true f = no-refuse (sym (refused-rows m r p e) ∙ took-rows m s q (eqb-true s.refusal 0 f))
-    go false e false f =
-        let t = refused-left (sym (refused-rows m r p e) ∙ refused-rows m s q f) in
-        let k : r.place ≡ s.place = omega (arith, ap length t.1, length-drop r.place m, length-drop s.place m, p.inside, q.inside) in
-        blank-rows m r p e ∙ (λ i. no_rows (t.0 i) (k i)) ∙ sym (blank-rows m s q f)
+pub rows-one : (m : List ℕ) (r s : Result RowsFound Fault) → RowsHeld m r → RowsHeld m s → r ≡ s
+rows-one m (Ok r) (Ok s) p q = ap Ok (taken-one p q)
+rows-one m (Ok r) (Err g) p q = refused-taken q p.says
+rows-one m (Err f) (Ok s) p q = refused-taken p q.says
+rows-one m (Err f) (Err g) p q = ap Err (fault-one p q)

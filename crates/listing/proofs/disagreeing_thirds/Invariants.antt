@@ -1,12 +1,7 @@
-use Prim.Native.Nat.{◌*◌, ◌-◌, ◌≤◌}
-use mathlib.Core.Path.{◌≡◌}
+-- The invariant: those of the rows so far, at most three a row.
+use Rattle.std.proofs.Common.{◌≡◌, ◌≤◌, ◌*◌, take}
 use Rattle.listing.specs.Listing.{disagreeing_thirds}
-use lib.ListN.{take}
-use Rattle.body.specs.Rows.{rows_of}
 use Rattle.listing.proofs.disagreeing_thirds.Given as goal
 
-abbrev pub invariant-loop-i : goal.invariant-loop-i
-invariant-loop-i l = (l.i ≤ 8) × (l.n ≡ disagreeing_thirds (take l.i (rows_of l.r))) × (l.n ≤ 3 * l.i)
-
-abbrev pub decreases-loop-i : goal.decreases-loop-i
-decreases-loop-i l = 8 - l.i
+abbrev pub invariant-loop-row : goal.invariant-loop-row
+invariant-loop-row l = (l.n ≡ disagreeing_thirds (take l.row-index l.row-items)) × (l.n ≤ 3 * l.row-index)

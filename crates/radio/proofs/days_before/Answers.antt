@@ -1,4 +1,4 @@
-use Rattle.std.proofs.Common.{◌≡◌, ◌-◌, refl, ap, ◌∙◌, arith}
+use Rattle.std.proofs.Common.{refl, arith}
 use Rattle.radio.specs.Minutes.{days_in}
 use Rattle.radio.proofs.Minutes.{days-few, days-next}
 use Rattle.radio.proofs.days_before.Goals as goal
@@ -12,6 +12,3 @@ overflow_add-days c = omega (arith, c.days_of-days.ensures, days-few c.loop-m.m)
 
 pub loop-m-preserved : goal.loop-m-preserved
 loop-m-preserved c = let l = c.loop-m in let k = days-few l.m in (rw c.days_of-days.ensures (days-next l.m l.days (omega arith) l.invariant.0), omega (arith, c.days_of-days.ensures))
-
-pub returns : goal.returns
-returns c = let l = c.loop-m in let z : l.m ≡ c.args.month = omega arith in (l.invariant.0 ∙ ap (λ k. days_in (k - 1)) z, omega arith)

@@ -3,10 +3,6 @@ use Rattle.std.proofs.lemmas.Bool.Decides.{nat_tests}
 use Rattle.text.specs.Choice.{◌and◌}
 use Rattle.radio.proofs.may_be.Goals as goal
 
-pub returns-in-Runway : goal.returns-in-Runway
-unfolding ◌and◌
-returns-in-Runway c = grind (arith, nat_tests)
-
 pub returns-else-x-eq0 : goal.returns-else-x-eq0
 unfolding ◌and◌
 returns-else-x-eq0 c = grind (arith, nat_tests)

@@ -1,8 +1,7 @@
-use Rattle.std.proofs.Common.{arith}
 use Rattle.text.specs.Laws.Put.{nothing_put}
 use Rattle.radio.specs.Record.{each}
 use Rattle.radio.proofs.Rows.{here-at}
-use Rattle.radio.proofs.Writing.{number_small, field_put, fields-put}
+use Rattle.radio.proofs.Writing.{number_small, field_put}
 use Rattle.radio.proofs.put_row.Goals as goal
 
 pub loop-field-init : goal.loop-field-init
@@ -16,6 +15,3 @@ pub loop-field-preserved : goal.loop-field-preserved
 loop-field-preserved c =
     let l = c.loop-field in
     field_put c.args.row l.field-index _ c.loop-field-test.true c.number_of.ensures l.invariant c.put_number-behind.ensures
-
-pub returns : goal.returns
-returns c = fields-put c.args.row (omega arith) c.loop-field.invariant

@@ -1,18 +1,17 @@
 -- How the code's answers stand for readings and writings.
 use Rattle.std.specs.Prelude.{ℕ, ◌≤◌, ◌≡◌, List, Bool, true, ltb, Result, Ok, Err, length, drop}
-use Rattle.text.specs.declared.Written.{Written}
 use Rattle.text.specs.declared.refusal.Refusal.{Refusal}
 use Rattle.text.specs.Refusals.{number}
 use Rattle.row.specs.declared.Row.{Row}
 use Rattle.body.specs.declared.Rows.{Rows}
 use Rattle.radio.specs.declared.Field.{Field}
 use Rattle.radio.specs.declared.Field.TheVariants.{Minutes, Runway, Code, Coverage, Depth, Description, Width}
-use Rattle.radio.specs.declared.Found.{Found}
+use Rattle.text.specs.declared.Found.{Found}
 use Rattle.radio.specs.declared.Radio.{Radio}
 use Rattle.radio.specs.declared.RowFound.{RowFound}
 use Rattle.radio.specs.Outcome.{Outcome, refuse, taken}
 use Rattle.radio.specs.Number.{Part, part}
-use Rattle.radio.specs.Answers.{refused, unwritten}
+use Rattle.radio.specs.Answers.{refused}
 
 -- the field is one of the row, or of one of its three thirds
 abbrev pub of_row : Field → Bool
@@ -51,8 +50,3 @@ HeldRow = Held (λ f. f.row) (λ f. f.next)
 abbrev pub as_radio : Result Rows Refusal → Radio
 as_radio (Ok rows) = record { refusal = 0; rows = rows }
 as_radio (Err e) = refused (number e)
-
--- the answer to rows that the length of their record or a refusal stands for
-abbrev pub as_written : Result ℕ Refusal → Written
-as_written (Ok n) = record { refusal = 0; length = n }
-as_written (Err e) = unwritten (number e)

@@ -5,7 +5,7 @@ use Rattle.text.specs.declared.refusal.Refusal.{Refusal}
 use Rattle.text.specs.Laws.Held.{one_place}
 use Rattle.text.specs.Laws.Refusals.{number-one}
 use Rattle.row.specs.declared.Row.{Row}
-use Rattle.radio.specs.declared.Found.{Found}
+use Rattle.text.specs.declared.Found.{Found}
 use Rattle.radio.specs.declared.RowFound.{RowFound}
 use Rattle.radio.specs.Outcome.{Outcome}
 use Rattle.radio.specs.Number.{Part}

@@ -1,23 +1,24 @@
 -- Parts of a message that fit, each by itself, as the code holds them.
-use Rattle.std.specs.Prelude.{ℕ, List, [], ◌∷◌, eqb}
+use Rattle.std.specs.Prelude.{List, [], ◌∷◌, Result, Ok, Err, eqb}
 use Rattle.text.specs.Choice.{◌else◌, first_failing, same_bytes}
-use Rattle.text.specs.Refusals.{serials_differ, aerodromes_differ, not_latest_time}
+use Rattle.text.specs.declared.refusal.Refusal.{Refusal}
+use Rattle.text.specs.declared.refusal.Refusal.TheVariants.{SerialsDiffer, AerodromesDiffer, NotLatestTime}
 use Rattle.row.specs.declared.Row.{Row}
 use Rattle.body.specs.declared.Rows.{Rows}
 use Rattle.body.specs.Rows.{latest}
-use Rattle.remarks.specs.declared.RemarksRead.{RemarksRead}
+use Rattle.remarks.specs.declared.Remarks.{Remarks}
 use Rattle.front.specs.declared.Front.{Front}
 use Rattle.record.specs.declared.Record.{Record}
 
--- the refusal of parts that fit, each by itself: 10, 11, 12, or 0 where the lines agree
-unfoldable pub mismatch : Front → List Row → ℕ
+-- the refusal of parts that fit, each by itself: 10, 11, 12, or none where the lines agree
+unfoldable pub mismatch : Front → List Row → Result (Unit {0}) Refusal
 mismatch f rows =
     first_failing (
-    eqb f.title.serial f.serial else serials_differ
-    ∷ same_bytes f.title.aerodrome f.aerodrome else aerodromes_differ
-    ∷ eqb f.time (latest rows) else not_latest_time
-    ∷ []) 0
+    eqb f.title.serial f.serial else Err SerialsDiffer
+    ∷ same_bytes f.title.aerodrome f.aerodrome else Err AerodromesDiffer
+    ∷ eqb f.time (latest rows) else Err NotLatestTime
+    ∷ []) (Ok tt)
 
 -- the record that the parts make
-abbrev pub record_of : Front → Rows → RemarksRead → Record
+abbrev pub record_of : Front → Rows → Remarks → Record
 record_of f r x = record { addresses = f.addresses; filing = f.filing; title = f.title; rows = r; items = x.items; language = x.language }

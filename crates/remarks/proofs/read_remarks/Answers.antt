@@ -1,164 +1,90 @@
-use mathlib.Core.Path.{refl, ◌∙◌}
-use native.Mathlib.Omega.{arith}
-use borrow.Author.Tests.{not-true, not-false}
-use Rattle.remarks.proofs.Steps.{Left, begun, line-inside, stop-inside, refused, not-closed, no-language, last-language, no_items, empty-items, last-items, goes_on, language-short-there, refused-answer, taken-answer}
+use Rattle.std.proofs.Common.{◌∙◌, sym, ap, arith, refl, [], Some, eq-eqb, ne_eqb}
+use Rattle.items.specs.Laws.Language.{language-short}
+use Rattle.remarks.specs.Remarks.{remarks}
+use Rattle.remarks.specs.Code.Held.{next_step}
+use Rattle.remarks.proofs.Steps.{begun, nothing-left, line-inside, ended, not_ended, language-found, no_items, items-found}
 use Rattle.remarks.proofs.read_remarks.Goals as goal
-use Rattle.remarks.proofs.read_remarks.Goals.{then-below+then-end-stop, then-below+else-end-stop+then-not-valid_language, then-below+else-end-stop+else-not-valid_language, else-below+then-not-read, else-below+else-not-read+then-stop-end+then-count-eq0, else-below+else-not-read+then-stop-end+else-count-eq0}
 
 pub returns-then-closed : goal.returns-then-closed
-returns-then-closed c = rw c.if-closed.true c.no_remarks.ensures
+returns-then-closed c = rw c.if-closed.true (record { said = remarks [] []; says = refl; keeps = c.no_remarks.ensures })
 
 pub lines-init : goal.lines-init
-lines-init c = begun c.args.m.now _
+lines-init c = begun c.args.m.now
 
-pub overflow_add-end : goal.overflow_add-end
-overflow_add-end c = omega (arith, (line-inside c.lines.invariant c.first_line-line.ensures).0)
+pub overflow_add-line : goal.overflow_add-line
+overflow_add-line c = omega (arith, (line-inside c.lines.invariant c.first_line-first.ensures).0)
+
+pub slice_bounds-line-end : goal.slice_bounds-line-end
+slice_bounds-line-end c = omega (arith, (line-inside c.lines.invariant c.first_line-first.ensures).0)
 
 pub overflow_add-next : goal.overflow_add-next
-overflow_add-next c = omega (arith, (line-inside c.lines.invariant c.first_line-line.ensures).1)
+overflow_add-next c = omega (arith, (line-inside c.lines.invariant c.first_line-first.ensures).1)
 
-pub slice_bounds-text_size-end : goal.slice_bounds-text_size-end
-slice_bounds-text_size-end c = omega (arith, (line-inside c.lines.invariant c.first_line-line.ensures).0)
-
-pub overflow_add-stop : goal.overflow_add-stop
-overflow_add-stop c = omega (arith, stop-inside c.lines.invariant c.first_line-line.ensures c.text_size-text.ensures)
-
-pub slice_bounds-valid_language-end : goal.slice_bounds-valid_language-end
-slice_bounds-valid_language-end c = omega (arith, stop-inside c.lines.invariant c.first_line-line.ensures c.text_size-text.ensures)
-
-pub overflow_sub-m : goal.overflow_sub-m
-overflow_sub-m c = omega (arith, (line-inside c.lines.invariant c.first_line-line.ensures).1)
-
-pub slice_bounds-read_awareness-end : goal.slice_bounds-read_awareness-end
-slice_bounds-read_awareness-end c = omega (arith, stop-inside c.lines.invariant c.first_line-line.ensures c.text_size-text.ensures)
-
-pub overflow_sub-m-then-stop-end : goal.overflow_sub-m-then-stop-end
-overflow_sub-m-then-stop-end c = omega (arith, (line-inside c.lines.invariant c.first_line-line.ensures).1)
-
-pub lines-smaller : goal.lines-smaller
-lines-smaller c = rw c.if-below.false (omega arith)
+pub kept_language-requires : goal.kept_language-requires
+kept_language-requires c = language-short _ (sym c.if-not-valid_language.ensures)
 
 pub lines-preserved : goal.lines-preserved
+unfolding next_step
 lines-preserved c =
-    goes_on c.lines.invariant c.first_line-line.ensures c.text_size-text.ensures c.if-below.false c.read_awareness-read.ensures
-    (not-false _ c.if-not-read.false) c.if-stop-end.false
+    let s = c.lines.invariant in
+    let f = c.first_line-first.ensures in
+    let found = items-found s f c.line_text-text.ensures c.if-is_closed.ensures c.in_default.is c.in-Some-read_awareness.ensures refl in
+    record { within = (line-inside s f).1; items = Some found.0; keeps = ap Some found.1; says = found.2 }
 
-pub returns-then-refusal-ne0 : goal.returns-then-refusal-ne0
-returns-then-refusal-ne0 c =
-    let answered : Left c.args.m.now c.if-below.items c.if-below.count c.lines.at c.if-below.size c.if-below.refusal c.if-below.place = let s = c.lines.invariant in
-    let f = c.first_line-line.ensures in
-    let e = c.text_size-text.ensures in
-    elim c.if-below.branch [
-      | then-below+then-end-stop w ↦
-          rw (w.size-is, w.place-is, w.refusal-is) (refused s f 4 _ refl (not-closed s f e w.if-below.true w.if-end-stop.true) _ _)
-      | then-below+else-end-stop+then-not-valid_language w ↦
-          rw (w.size-is, w.place-is, w.refusal-is) (refused s f 9 _ refl (no-language s f e w.if-below.true w.if-end-stop.false w.valid_language.ensures w.if-not-valid_language.true) _ _)
-      | then-below+else-end-stop+else-not-valid_language w ↦
-          rw (w.items-is, w.count-is, w.size-is, w.place-is, w.refusal-is)
-          (last-language s f e w.if-below.true w.if-end-stop.false w.valid_language.ensures w.if-not-valid_language.false w.ending-refusal.ensures)
-      | else-below+then-not-read w ↦
-          rw (w.size-is, w.place-is, w.refusal-is) (refused s f 8 _ refl (no_items s f e w.if-below.false w.read_awareness-read.ensures (not-true _ w.if-not-read.true)) _ _)
-      | else-below+else-not-read+then-stop-end+then-count-eq0 w ↦
-          rw (w.size-is, w.place-is, w.refusal-is)
-          (refused s f 8 _ refl (empty-items s f e w.if-below.false w.read_awareness-read.ensures (not-false _ w.if-not-read.false) w.if-stop-end.true w.if-count-eq0.true) _ _)
-      | else-below+else-not-read+then-stop-end+else-count-eq0 w ↦
-          rw (w.items-is, w.count-is, w.size-is, w.place-is, w.refusal-is)
-          (last-items s f e w.if-below.false w.read_awareness-read.ensures (not-false _ w.if-not-read.false) w.if-stop-end.true w.if-count-eq0.false w.ending-refusal-then-stop-end.ensures)
-    ] in
-    rw c.if-closed.false (c.no_remarks-then-refusal-ne0.ensures ∙ refused-answer answered c.if-refusal-ne0.true)
+pub returns-then-not-is_closed : goal.returns-then-not-is_closed
+returns-then-not-is_closed c =
+    let found = language-found c.lines.invariant c.first_line-first.ensures c.line_text-text.ensures c.if-not-is_closed.ensures c.in-Some.is refl in
+    rw (c.if-closed.false, c.at.ensures) (record { within = omega arith; says = sym found.2 ∙ nothing-left c.args.m.now })
 
-pub overflow_add-end-2 : goal.overflow_add-end-2
-overflow_add-end-2 c =
-    let answered : Left c.args.m.now c.if-below.items c.if-below.count c.lines.at c.if-below.size c.if-below.refusal c.if-below.place = let s = c.lines.invariant in
-    let f = c.first_line-line.ensures in
-    let e = c.text_size-text.ensures in
-    elim c.if-below.branch [
-      | then-below+then-end-stop w ↦
-          rw (w.size-is, w.place-is, w.refusal-is) (refused s f 4 _ refl (not-closed s f e w.if-below.true w.if-end-stop.true) _ _)
-      | then-below+else-end-stop+then-not-valid_language w ↦
-          rw (w.size-is, w.place-is, w.refusal-is) (refused s f 9 _ refl (no-language s f e w.if-below.true w.if-end-stop.false w.valid_language.ensures w.if-not-valid_language.true) _ _)
-      | then-below+else-end-stop+else-not-valid_language w ↦
-          rw (w.items-is, w.count-is, w.size-is, w.place-is, w.refusal-is)
-          (last-language s f e w.if-below.true w.if-end-stop.false w.valid_language.ensures w.if-not-valid_language.false w.ending-refusal.ensures)
-      | else-below+then-not-read w ↦
-          rw (w.size-is, w.place-is, w.refusal-is) (refused s f 8 _ refl (no_items s f e w.if-below.false w.read_awareness-read.ensures (not-true _ w.if-not-read.true)) _ _)
-      | else-below+else-not-read+then-stop-end+then-count-eq0 w ↦
-          rw (w.size-is, w.place-is, w.refusal-is)
-          (refused s f 8 _ refl (empty-items s f e w.if-below.false w.read_awareness-read.ensures (not-false _ w.if-not-read.false) w.if-stop-end.true w.if-count-eq0.true) _ _)
-      | else-below+else-not-read+then-stop-end+else-count-eq0 w ↦
-          rw (w.items-is, w.count-is, w.size-is, w.place-is, w.refusal-is)
-          (last-items s f e w.if-below.false w.read_awareness-read.ensures (not-false _ w.if-not-read.false) w.if-stop-end.true w.if-count-eq0.false w.ending-refusal-then-stop-end.ensures)
-    ] in
-    omega (arith, answered.inside)
+pub returns-then-not-valid_language : goal.returns-then-not-valid_language
+returns-then-not-valid_language c =
+    let s = c.lines.invariant in
+    let found = language-found s c.first_line-first.ensures c.line_text-text.ensures c.if-not-is_closed.ensures c.in-Some.is c.if-not-valid_language.ensures in
+    rw (c.if-closed.false, c.at-then-not-valid_language.ensures) (record { within = s.within; says = sym found.2 })
 
-pub slice_bounds-kept_language-end : goal.slice_bounds-kept_language-end
-slice_bounds-kept_language-end c =
-    let answered : Left c.args.m.now c.if-below.items c.if-below.count c.lines.at c.if-below.size c.if-below.refusal c.if-below.place = let s = c.lines.invariant in
-    let f = c.first_line-line.ensures in
-    let e = c.text_size-text.ensures in
-    elim c.if-below.branch [
-      | then-below+then-end-stop w ↦
-          rw (w.size-is, w.place-is, w.refusal-is) (refused s f 4 _ refl (not-closed s f e w.if-below.true w.if-end-stop.true) _ _)
-      | then-below+else-end-stop+then-not-valid_language w ↦
-          rw (w.size-is, w.place-is, w.refusal-is) (refused s f 9 _ refl (no-language s f e w.if-below.true w.if-end-stop.false w.valid_language.ensures w.if-not-valid_language.true) _ _)
-      | then-below+else-end-stop+else-not-valid_language w ↦
-          rw (w.items-is, w.count-is, w.size-is, w.place-is, w.refusal-is)
-          (last-language s f e w.if-below.true w.if-end-stop.false w.valid_language.ensures w.if-not-valid_language.false w.ending-refusal.ensures)
-      | else-below+then-not-read w ↦
-          rw (w.size-is, w.place-is, w.refusal-is) (refused s f 8 _ refl (no_items s f e w.if-below.false w.read_awareness-read.ensures (not-true _ w.if-not-read.true)) _ _)
-      | else-below+else-not-read+then-stop-end+then-count-eq0 w ↦
-          rw (w.size-is, w.place-is, w.refusal-is)
-          (refused s f 8 _ refl (empty-items s f e w.if-below.false w.read_awareness-read.ensures (not-false _ w.if-not-read.false) w.if-stop-end.true w.if-count-eq0.true) _ _)
-      | else-below+else-not-read+then-stop-end+else-count-eq0 w ↦
-          rw (w.items-is, w.count-is, w.size-is, w.place-is, w.refusal-is)
-          (last-items s f e w.if-below.false w.read_awareness-read.ensures (not-false _ w.if-not-read.false) w.if-stop-end.true w.if-count-eq0.false w.ending-refusal-then-stop-end.ensures)
-    ] in
-    omega (arith, answered.inside)
+pub returns-then-next-m : goal.returns-then-next-m
+returns-then-next-m c =
+    let s = c.lines.invariant in
+    let f = c.first_line-first.ensures in
+    let found = language-found s f c.line_text-text.ensures c.if-not-is_closed.ensures c.in-Some.is c.if-not-valid_language.ensures in
+    rw (c.if-closed.false, c.at-then-next-m.ensures) (record { within = (line-inside s f).1; says = sym found.2 ∙ not_ended s f _ c.if-next-m.true })
 
-pub kept_language-language-requires : goal.kept_language-language-requires
-kept_language-language-requires c =
-    let answered : Left c.args.m.now c.if-below.items c.if-below.count c.lines.at c.if-below.size c.if-below.refusal c.if-below.place = let s = c.lines.invariant in
-    let f = c.first_line-line.ensures in
-    let e = c.text_size-text.ensures in
-    elim c.if-below.branch [
-      | then-below+then-end-stop w ↦
-          rw (w.size-is, w.place-is, w.refusal-is) (refused s f 4 _ refl (not-closed s f e w.if-below.true w.if-end-stop.true) _ _)
-      | then-below+else-end-stop+then-not-valid_language w ↦
-          rw (w.size-is, w.place-is, w.refusal-is) (refused s f 9 _ refl (no-language s f e w.if-below.true w.if-end-stop.false w.valid_language.ensures w.if-not-valid_language.true) _ _)
-      | then-below+else-end-stop+else-not-valid_language w ↦
-          rw (w.items-is, w.count-is, w.size-is, w.place-is, w.refusal-is)
-          (last-language s f e w.if-below.true w.if-end-stop.false w.valid_language.ensures w.if-not-valid_language.false w.ending-refusal.ensures)
-      | else-below+then-not-read w ↦
-          rw (w.size-is, w.place-is, w.refusal-is) (refused s f 8 _ refl (no_items s f e w.if-below.false w.read_awareness-read.ensures (not-true _ w.if-not-read.true)) _ _)
-      | else-below+else-not-read+then-stop-end+then-count-eq0 w ↦
-          rw (w.size-is, w.place-is, w.refusal-is)
-          (refused s f 8 _ refl (empty-items s f e w.if-below.false w.read_awareness-read.ensures (not-false _ w.if-not-read.false) w.if-stop-end.true w.if-count-eq0.true) _ _)
-      | else-below+else-not-read+then-stop-end+else-count-eq0 w ↦
-          rw (w.items-is, w.count-is, w.size-is, w.place-is, w.refusal-is)
-          (last-items s f e w.if-below.false w.read_awareness-read.ensures (not-false _ w.if-not-read.false) w.if-stop-end.true w.if-count-eq0.false w.ending-refusal-then-stop-end.ensures)
-    ] in
-    language-short-there answered
+pub returns-else-next-m : goal.returns-else-next-m
+returns-else-next-m c =
+    let s = c.lines.invariant in
+    let f = c.first_line-first.ensures in
+    let found = language-found s f c.line_text-text.ensures c.if-not-is_closed.ensures c.in-Some.is c.if-not-valid_language.ensures in
+    rw c.if-closed.false (record { said = _; says = sym found.2 ∙ ended s f _ c.if-next-m.false; keeps = λ i. record { items = found.1 i; language = c.kept_language.ensures i } })
 
-pub returns : goal.returns
-returns c =
-    let answered : Left c.args.m.now c.if-below.items c.if-below.count c.lines.at c.if-below.size c.if-below.refusal c.if-below.place = let s = c.lines.invariant in
-    let f = c.first_line-line.ensures in
-    let e = c.text_size-text.ensures in
-    elim c.if-below.branch [
-      | then-below+then-end-stop w ↦
-          rw (w.size-is, w.place-is, w.refusal-is) (refused s f 4 _ refl (not-closed s f e w.if-below.true w.if-end-stop.true) _ _)
-      | then-below+else-end-stop+then-not-valid_language w ↦
-          rw (w.size-is, w.place-is, w.refusal-is) (refused s f 9 _ refl (no-language s f e w.if-below.true w.if-end-stop.false w.valid_language.ensures w.if-not-valid_language.true) _ _)
-      | then-below+else-end-stop+else-not-valid_language w ↦
-          rw (w.items-is, w.count-is, w.size-is, w.place-is, w.refusal-is)
-          (last-language s f e w.if-below.true w.if-end-stop.false w.valid_language.ensures w.if-not-valid_language.false w.ending-refusal.ensures)
-      | else-below+then-not-read w ↦
-          rw (w.size-is, w.place-is, w.refusal-is) (refused s f 8 _ refl (no_items s f e w.if-below.false w.read_awareness-read.ensures (not-true _ w.if-not-read.true)) _ _)
-      | else-below+else-not-read+then-stop-end+then-count-eq0 w ↦
-          rw (w.size-is, w.place-is, w.refusal-is)
-          (refused s f 8 _ refl (empty-items s f e w.if-below.false w.read_awareness-read.ensures (not-false _ w.if-not-read.false) w.if-stop-end.true w.if-count-eq0.true) _ _)
-      | else-below+else-not-read+then-stop-end+else-count-eq0 w ↦
-          rw (w.items-is, w.count-is, w.size-is, w.place-is, w.refusal-is)
-          (last-items s f e w.if-below.false w.read_awareness-read.ensures (not-false _ w.if-not-read.false) w.if-stop-end.true w.if-count-eq0.false w.ending-refusal-then-stop-end.ensures)
-    ] in
-    rw c.if-closed.false (taken-answer answered c.if-refusal-ne0.false c.kept_language-language.ensures)
+pub returns-in_default-read_awareness : goal.returns-in_default-read_awareness
+returns-in_default-read_awareness c =
+    let s = c.lines.invariant in
+    rw (c.if-closed.false, c.at-in_default-read_awareness.ensures) (record {
+      within = s.within;
+      says = sym (no_items s c.first_line-first.ensures c.line_text-text.ensures refl c.in_default.is c.in_default-read_awareness.ensures);
+    })
+
+pub returns-then-items-eq0 : goal.returns-then-items-eq0
+returns-then-items-eq0 c =
+    let s = c.lines.invariant in
+    let found = items-found s c.first_line-first.ensures c.line_text-text.ensures c.if-is_closed.ensures c.in_default.is c.in-Some-read_awareness.ensures (sym (eq-eqb _ _ c.if-items-eq0.true)) in
+    rw (c.if-closed.false, c.at-then-items-eq0.ensures) (record { within = s.within; says = sym found.2 })
+
+pub returns-then-next-m-2 : goal.returns-then-next-m-2
+returns-then-next-m-2 c =
+    let s = c.lines.invariant in
+    let f = c.first_line-first.ensures in
+    let found = items-found s f c.line_text-text.ensures c.if-is_closed.ensures c.in_default.is c.in-Some-read_awareness.ensures (sym (ne_eqb _ _ c.if-items-eq0.false)) in
+    rw (c.if-closed.false, c.at-then-next-m-2.ensures)
+    (record { within = (line-inside s f).1; says = sym found.2 ∙ not_ended s f _ c.if-next-m-2.true })
+
+pub returns-else-next-m-2 : goal.returns-else-next-m-2
+returns-else-next-m-2 c =
+    let s = c.lines.invariant in
+    let f = c.first_line-first.ensures in
+    let found = items-found s f c.line_text-text.ensures c.if-is_closed.ensures c.in_default.is c.in-Some-read_awareness.ensures (sym (ne_eqb _ _ c.if-items-eq0.false)) in
+    rw c.if-closed.false (record {
+      said = _;
+      says = sym found.2 ∙ ended s f _ c.if-next-m-2.false;
+      keeps = λ i. record { items = found.1 i; language = c.no_language.ensures i };
+    })

@@ -3,8 +3,8 @@ use Rattle.thirds.specs.declared.Group.TheVariants.{Coverages, Depths, Descripti
 use Rattle.rowtext.proofs.Steps.{shown, alone-shown}
 use Rattle.rowtext.proofs.full_fault.Goals as goal
 
-pub with_rest-row-requires : goal.with_rest-row-requires
-with_rest-row-requires c = (
+pub with_rest-filled-requires : goal.with_rest-filled-requires
+with_rest-filled-requires c = (
   alone-shown Coverages coverages-laws _ c.in-Some.ensures.says,
   alone-shown Depths depths-laws _ c.in-Some-alone_group.ensures.says,
   shown Descriptions descriptions-laws _ c.in-Some-read_group.ensures.says,

@@ -5,8 +5,8 @@ use Rattle.rowtext.specs.Laws.Short.{full_is}
 use Rattle.rowtext.proofs.Steps.{shown}
 use Rattle.rowtext.proofs.full_into.Goals as goal
 
-pub with_rest-row-requires : goal.with_rest-row-requires
-with_rest-row-requires c = (
+pub with_rest-filled-requires : goal.with_rest-filled-requires
+with_rest-filled-requires c = (
   shown Coverages coverages-laws _ c.in_ok-v.ensures.says,
   shown Depths depths-laws _ c.in_ok-d.ensures.says,
   shown Descriptions descriptions-laws _ c.in_ok-k.ensures.says,
@@ -16,6 +16,7 @@ pub returns-then-valid_depths : goal.returns-then-valid_depths
 returns-then-valid_depths c =
     record {
       within = c.in_ok-k.ensures.within;
-      says = full_is c.args.row c.with_rest-row.result c.args.s.now c.in_ok-v.ensures.says c.in_ok-d.ensures.says c.in_ok-k.ensures.says c.with_rest-row.ensures
+      says = full_is c.args.row.now c.with_rest-filled.result c.args.s.now c.in_ok-v.ensures.says c.in_ok-d.ensures.says c.in_ok-k.ensures.says c.with_rest-filled.ensures
           (sym c.valid_coverages.ensures ∙ c.if-valid_coverages.true) (sym c.valid_depths.ensures ∙ c.if-valid_depths.true);
+      kept = tt;
     }

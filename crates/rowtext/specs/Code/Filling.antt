@@ -1,5 +1,5 @@
 -- A row that is filled group by group, as the code reads it.
-use Rattle.std.specs.Prelude.{ℕ, ◌<◌, ◌≤◌, ◌≡◌, List, [], ◌∷◌, cond, Bool, true, Result, Ok, Err, MatchResult, length, drop}
+use Rattle.std.specs.Prelude.{ℕ, ◌<◌, ◌≤◌, ◌≡◌, List, [], ◌∷◌, cond, Bool, true, Result, Ok, Err, IfErr, MatchResult, length, drop}
 use Rattle.text.specs.Choice.{all, is_empty}
 use Rattle.text.specs.Read.{Got, got, skip, read_seq, read_if}
 use Rattle.text.specs.Out.{Out, refuse, taken, next, fit, demand}
@@ -20,7 +20,6 @@ use Rattle.rowtext.specs.Text.{numbers_of}
 use Rattle.rowtext.specs.Reading.{Rest, all_nr, make_thirds, read_alone, each, may_cover, may_lie, read_width, short, group, find_row}
 use Rattle.rowtext.specs.Reading.{time_group, runway_group, code_group, coverage_group, depth_group, description_group, width_group}
 use Rattle.rowtext.specs.declared.Part.{Part}
-use Rattle.rowtext.specs.declared.Step.{Step}
 
 -- the row with one group more: its time
 abbrev pub with_time : Row → ℕ → Row
@@ -103,20 +102,26 @@ unfoldable pub fill_from : List Part → Row → List ℕ → Out (Row × List �
 fill_from [] r m = taken (r, m)
 fill_from (g ∷ gs) r m = next (fill_group g r m) (λ p. fill_from gs p.0 p.1)
 
--- the place that the code's answer names: behind a group that it has read, or of a fault
-abbrev pub place_of : Result Step Fault → ℕ
-place_of (Ok s) = s.next
+-- what an answer of the code says of m: a value, or a refusal and what is left at its place
+abbrev pub answered : {T A : Type 0} → (T → A) → List ℕ → Result T Fault → Out A
+answered told m (Ok x) = taken (told x)
+answered told m (Err f) = refuse (number f.refusal) (drop f.place m)
+
+-- the place that it names: behind a part that is read, or of a fault
+abbrev pub place_of : Result ℕ Fault → ℕ
+place_of (Ok next) = next
 place_of (Err f) = f.place
 
--- what it says of the reading of a group in m
-abbrev pub answered : List ℕ → Result Step Fault → Out (Row × List ℕ)
-answered m (Ok s) = taken (s.row, drop s.next m)
-answered m (Err f) = refuse (number f.refusal) (drop f.place m)
+-- the answer a to what `fill` reads of m into a row, which it leaves as r: as it was where it is refused
+pub record Filled (fill : Row → List ℕ → Out (Row × List ℕ)) (m : List ℕ) (was r : Row) (a : Result ℕ Fault) : Type 0 where
+  pub within : place_of a ≤ length m
+  pub says : fill was m ≡ answered (λ next. (r, drop next m)) m a
+  pub kept : IfErr a (λ _. r ≡ was)
 
--- the answer r to the reading o of a group in m
-pub record Filled (m : List ℕ) (o : Out (Row × List ℕ)) (r : Result Step Fault) : Type 0 where
-  pub within : place_of r ≤ length m
-  pub says : o ≡ answered m r
+-- the answer a to the judgement of thirds whose coverages start at m, and whose depths start at m₄
+pub record Judged (ts : List Third) (m m₄ : List ℕ) (a : Result (Unit {0}) Fault) : Type 0 where
+  pub within : IfErr a (λ f. f.place ≤ length m)
+  pub says : judged ts m m₄ (taken (tt {0})) ≡ answered (λ _. tt {0}) m a
 
 -- the answer r to the reading of a whole line
 abbrev pub RowFound : List ℕ → Result Row Fault → Type 0

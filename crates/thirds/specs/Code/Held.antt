@@ -1,5 +1,6 @@
 -- What the code's answers say of the readers.
-use Rattle.std.specs.Prelude.{ℕ, List, Option, slice_index}
+use Rattle.std.specs.Prelude.{ℕ, List, Option, slice_index, cond, eqb}
+use Rattle.text.specs.Piece.{bytes}
 use Rattle.text.specs.Read.{Got}
 use Rattle.text.specs.Code.Held.{Told}
 use Rattle.thirds.specs.Groups.{Three}
@@ -12,3 +13,7 @@ three ns = (slice_index ns 0, slice_index ns 1, slice_index ns 2)
 -- the answer r is the reading g of three numbers in m
 abbrev pub HeldThree : List ℕ → Got Three → Option Trio → Type 0
 HeldThree = Told (λ t. three t.numbers) (λ t. t.next)
+
+-- what parts a third of a group from what stands before it: a gap the first, `/` each other
+abbrev pub joint_text : ℕ → List ℕ
+joint_text k = cond (eqb k 0) (bytes " ") (bytes "/")

@@ -1,8 +1,0 @@
-use Rattle.text.specs.Laws.Tests.{tests}
-use Rattle.body.proofs.empty_line.Goals as goal
-
-pub returns-then-count-eq0 : goal.returns-then-count-eq0
-returns-then-count-eq0 c = search tests
-
-pub returns-else-count-eq0 : goal.returns-else-count-eq0
-returns-else-count-eq0 c = search tests

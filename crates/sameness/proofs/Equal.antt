@@ -1,0 +1,76 @@
+-- The definitions say of the parts of a record what `==` answers.
+use Rattle.std.specs.Prelude.{ℕ, ◌≡◌, List, Bool, eqb, nat_eq, ◌&&◌}
+use Rattle.std.proofs.Common.{sym, ◌∙◌, arith}
+use Rattle.std.specs.Cmp.Lexicographic.{pointwise}
+use Rattle.text.specs.Choice.{◌and◌, same_all, same_bytes}
+use Rattle.text.specs.Laws.Iter.{and-is, same-pointwise}
+use Rattle.surface.specs.declared.Third.{Third}
+use Rattle.surface.specs.contracts.ThirdPartialEq.TheImpl as thirds
+use Rattle.row.specs.declared.Row.{Row}
+use Rattle.row.specs.contracts.RowPartialEq.TheImpl as rows
+use Rattle.frontlines.specs.declared.Addresses.{Addresses}
+use Rattle.frontlines.specs.contracts.AddressesPartialEq.TheImpl as addresses
+use Rattle.frontlines.specs.declared.Filing.{Filing}
+use Rattle.frontlines.specs.contracts.FilingPartialEq.TheImpl as filings
+use Rattle.frontlines.specs.declared.Title.{Title}
+use Rattle.frontlines.specs.contracts.TitlePartialEq.TheImpl as titles
+use Rattle.items.specs.declared.Item.{Item}
+use Rattle.items.specs.contracts.ItemPartialEq.TheImpl as items
+use Rattle.items.specs.declared.Items.{Items}
+use Rattle.items.specs.declared.Language.{Language}
+use Rattle.items.specs.contracts.LanguagePartialEq.TheImpl as languages
+use Rattle.items.specs.Parts.{items_of}
+use Rattle.body.specs.declared.Rows.{Rows}
+use Rattle.body.specs.Rows.{rows_of}
+use Rattle.sameness.specs.Same.{same_addresses, same_filing, same_title, same_third, same_row, same_rows, same_numbers, same_item, same_items, same_language}
+
+bytes : (xs ys : List ℕ) → same_bytes xs ys ≡ pointwise nat_eq xs ys
+bytes xs ys = sym (same-pointwise nat_eq xs ys)
+
+-- where two tests agree, lists compared by them do too
+listed : {A : Type 0} (F E : A → A → Bool) → ((x y : A) → F x y ≡ E x y) → (xs ys : List A) → same_all F xs ys ≡ pointwise E xs ys
+listed F E is xs ys = (λ i. same_all (λ x y. is x y i) xs ys) ∙ sym (same-pointwise E xs ys)
+
+-- lines 1 to 3
+pub addresses_equal : (a b : Addresses) → same_addresses a b ≡ addresses.ghosts.eq a b
+unfolding same_addresses ◌and◌
+addresses_equal a b = grind (arith, bytes)
+
+pub filing_equal : (a b : Filing) → same_filing a b ≡ filings.ghosts.eq a b
+unfolding same_filing ◌and◌
+filing_equal a b = grind (arith, bytes)
+
+pub title_equal : (a b : Title) → same_title a b ≡ titles.ghosts.eq a b
+unfolding same_title ◌and◌
+title_equal a b = grind (arith, bytes)
+
+-- rows
+third_equal : (a b : Third) → same_third a b ≡ thirds.ghosts.eq a b
+unfolding same_third ◌and◌
+third_equal a b = grind arith
+
+thirds_equal : (a b : List Third) → same_all same_third a b ≡ pointwise thirds.ghosts.eq a b
+thirds_equal = listed same_third thirds.ghosts.eq third_equal
+
+row_equal : (a b : Row) → same_row a b ≡ rows.ghosts.eq a b
+unfolding same_row ◌and◌
+row_equal a b = grind (arith, thirds_equal)
+
+pub rows_equal : (a b : Rows) → same_rows a b ≡ (eqb a.count b.count && pointwise rows.ghosts.eq (rows_of a) (rows_of b))
+unfolding same_rows
+rows_equal a b = rw (listed same_row rows.ghosts.eq row_equal (rows_of a) (rows_of b)) (sym (and-is _ _))
+
+-- items and plain language
+item_equal : (a b : Item) → same_item a b ≡ items.ghosts.eq a b
+unfolding same_item same_numbers ◌and◌
+item_equal a b = grind (arith, bytes)
+
+pub items_equal : (a b : Items) → same_items a b ≡ (eqb a.count b.count && pointwise items.ghosts.eq (items_of a) (items_of b))
+unfolding same_items
+items_equal a b = rw (listed same_item items.ghosts.eq item_equal (items_of a) (items_of b)) (sym (and-is _ _))
+
+pub language_equal : (a b : Language) → same_language a b ≡ languages.ghosts.eq a b
+unfolding same_language ◌and◌
+language_equal a b = grind (arith, bytes)
+
+pub ruleset equal = (addresses_equal, filing_equal, title_equal, rows_equal, items_equal, language_equal)
