@@ -19,7 +19,7 @@ ghost use Rattle.awareness.specs.Code.Named.{in_slots, HeldTaxiways};
 use fill::put;
 use items::{
     APRON_SIZE, BLANK_ITEM, Item, Items, MOST_ITEMS, MOST_TAXIWAYS, TAXIWAY_BYTES, TAXIWAY_SIZE,
-    may_follow, numbers_fit, valid_item, words,
+    blank_item, may_follow, numbers_fit, valid_item, words,
 };
 use runway::read_runway;
 use scan::{counted, digits, run, spaces, word};
@@ -355,16 +355,21 @@ fn stands_behind(items: &[Item], item: Item) -> bool
 pub fn read_awareness(line: &[u8]) -> Option<Items>
     ensures { result ≡ items_answer (whole_awareness line.now) }
 {
-    let mut items = [BLANK_ITEM; 32];
-    let mut count: u8 = 0;
+    // stays: a call, with which the machine clears the array at once; the constant is stored 32 times
+    let blank = blank_item();
+    let mut read = Items {
+        count: 0,
+        items: [blank; 32],
+    };
     // where the last item ends, and where the next would start
     let mut end = 0;
     let mut at = 0;
+    // left with no value: with the items, the array would be copied twice more
     'items: loop {
         if line.len() <= end {
-            break 'items Some(Items { count, items });
+            break 'items Some(());
         }
-        if MOST_ITEMS <= count {
+        if MOST_ITEMS <= read.count {
             break 'items None;
         }
         let Some(found) = read_body(line, at) else {
@@ -373,13 +378,13 @@ pub fn read_awareness(line: &[u8]) -> Option<Items>
         let Some(stop) = behind(line, found.next, &words::FULL_STOP) else {
             break 'items None;
         };
-        let n = usize::from(count);
-        if !stands_behind(&items[..n], found.item) {
+        if !stands_behind(read.listed(), found.item) {
             break 'items None;
         }
-        items[n] = found.item;
-        count += 1;
+        read.items[usize::from(read.count)] = found.item;
+        read.count += 1;
         end = stop;
         at = spaces(line, stop);
-    }
+    }?;
+    Some(read)
 }

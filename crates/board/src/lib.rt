@@ -160,19 +160,13 @@ fn all_fit(runways: &[Runway], rows: &[Row]) -> bool
     runways.iter().zip(rows).all(|(&w, &r)| fits_place(w, r))
 }
 
-fn all_unreported(rows: &[Row]) -> bool
-    ensures { result ≡ all is_blank_row rows.now }
-{
-    rows.iter().all(|&r| is_blank_row(r))
-}
-
 // Each row shown stands in its own runway's place, and zeros in every place past the runways.
 #[tactic(auto, using(text::specs::Laws::Tests::and_is, crate::proofs::Places::fit_split, crate::proofs::Places::rest_all))]
 fn fit_places(runways: &[Runway], rows: &[Row]) -> bool
     requires { length runways.now ≤ length rows.now }
     ensures { result ≡ fit_places runways.now rows.now }
 {
-    all_fit(runways, rows) && all_unreported(&rows[runways.len()..])
+    all_fit(runways, rows) && body::all_blank(&rows[runways.len()..])
 }
 
 // Of a stored time and a row's the later; where none is stored, the row's.

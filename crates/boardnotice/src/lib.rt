@@ -48,13 +48,15 @@ fn shown_rows(rows: &[Row; 8]) -> Rows
 fn board_record(b: Board, d: Details, items: Items, language: Language) -> Record
     ensures { result ≡ board_record b d items language }
 {
+    let region = d.region;
+    let aerodrome = b.aerodrome;
     Record {
         addresses: d.addresses,
         filing: d.filing,
         title: Title {
-            region: d.region,
+            region,
             serial: d.serial,
-            aerodrome: b.aerodrome,
+            aerodrome,
         },
         rows: shown_rows(&b.rows),
         items,
@@ -86,10 +88,11 @@ pub fn write_board(
 fn details_of(r: Record) -> Details
     ensures { result ≡ details_of r }
 {
+    let region = r.title.region;
     Details {
         addresses: r.addresses,
         filing: r.filing,
-        region: r.title.region,
+        region,
         serial: r.title.serial,
     }
 }

@@ -74,7 +74,7 @@ pub fn all_new(rows: &[Row]) -> bool
     true
 }
 
-fn all_blank(rows: &[Row]) -> bool
+pub fn all_blank(rows: &[Row]) -> bool
     ensures { result ≡ all is_blank_row rows.now }
 {
     rows.iter().all(|&r| is_blank_row(r))

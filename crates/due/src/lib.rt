@@ -37,7 +37,8 @@ fn difference(old: u16, new: u16) -> u32
 fn is_significant(description: u8, difference: u32) -> bool
     ensures { result ≡ is_significant description difference }
 {
-    line_of(description as u32).is_some_and(|Contaminant(_, _, figure)| u32::from(figure) <= difference)
+    let line = line_of(description as u32);
+    line.is_some_and(|Contaminant(_, _, figure)| figure as u32 <= difference)
 }
 
 fn depth_counts(description: u8, old: u16, new: u16) -> bool

@@ -1,4 +1,5 @@
 // Texts and numbers put into the rest of a buffer.
+// stays: may not change: `put` and the others are promised of a buffer and a place in it, as document 01 has its writers.
 
 #![tactic(auto)]
 

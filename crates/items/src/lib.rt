@@ -300,10 +300,17 @@ pub fn blank_item() -> Item
     BLANK_ITEM
 }
 
+fn has_no_numbers(i: Item) -> bool
+    ensures { result ≡ no_numbers i }
+{
+    i.letter == 0 && i.number == 0 && i.side == 0 && i.amount == 0 && i.edge == 0 && i.count == 0
+}
+
+// stays: `== BLANK_ITEM` takes 12 instructions more for each item
 pub fn is_blank_item(i: Item) -> bool
     ensures { result ≡ is_blank_item i }
 {
-    i == BLANK_ITEM
+    has_no_numbers(i) && zeros_from(&i.taxiways, 0) && zeros_from(&i.name, 0)
 }
 
 // ---- The items of a record

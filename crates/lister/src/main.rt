@@ -2,7 +2,8 @@
 
 #![tactic(auto)]
 
-use listing::input::read_full;
+ghost use Rattle.std.specs.Prelude.{◌≤◌, length, IfOk};
+
 use listing::list;
 use std::io::{self, Read};
 
@@ -10,6 +11,22 @@ use std::io::{self, Read};
 const KEPT: usize = 4097;
 
 const ROOM: usize = 8192;
+
+// Reads until `held` is full or the input ends, and answers how many bytes it put.
+// stays: no plainer: the lister and the test each have it, since what an input gives no promise of a library could say.
+fn read_full(input: &mut impl Read, held: &mut [u8]) -> io::Result<usize>
+    ensures { IfOk result (λ n. n ≤ length held.new) }
+{
+    let mut n = 0;
+    while n < held.len() {
+        let got = input.read(&mut held[n..])?;
+        if got == 0 {
+            break;
+        }
+        n += got;
+    }
+    Ok(n)
+}
 
 // Reads the input to its end, so that the sender is not cut off.
 fn read_on(input: &mut impl Read) -> io::Result<()> {

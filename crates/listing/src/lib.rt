@@ -8,8 +8,6 @@ ghost use Rattle.body.specs.Rows.{rows_of};
 ghost use Rattle.record.specs.Notice.{notice_text};
 ghost use Rattle.listing.specs.Listing.{disagreeing_thirds, counted, accepted_line, refused_line, listing};
 
-pub mod input;
-
 use body::{Rows, latest_time};
 use fill::{in_rest, put, put_number};
 use notice::read;

@@ -8,7 +8,8 @@ use Rattle.text.specs.Refusals.{too_long, line_one_or_two, line_three, outline, 
 use Rattle.row.specs.declared.Row.{Row}
 use Rattle.frontlines.specs.Addresses.{read_addresses}
 use Rattle.frontlines.specs.Filing.{read_filing}
-use Rattle.frontlines.specs.Heading.{Heading, read_heading, read_serial_line, read_aerodrome}
+use Rattle.frontlines.specs.declared.Heading.{Heading}
+use Rattle.frontlines.specs.Heading.{read_heading, read_serial_line, read_aerodrome}
 use Rattle.front.specs.Places.{time_on, serial_on}
 use Rattle.body.specs.Rows.{most_rows, latest, read_rows}
 use Rattle.remarks.specs.Remarks.{read_remarks}

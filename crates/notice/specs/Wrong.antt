@@ -10,7 +10,8 @@ use Rattle.frontlines.specs.declared.Filing.{Filing}
 use Rattle.frontlines.specs.Letters.{is_letters}
 use Rattle.frontlines.specs.Addresses.{addresses_pieces, valid_addresses}
 use Rattle.frontlines.specs.Filing.{filing_pieces, valid_filing}
-use Rattle.frontlines.specs.Heading.{Heading, aerodrome_size, is_serial, heading_pieces, valid_heading, serial_pieces, aerodrome_pieces}
+use Rattle.frontlines.specs.declared.Heading.{Heading}
+use Rattle.frontlines.specs.Heading.{aerodrome_size, is_serial, heading_pieces, valid_heading, serial_pieces, aerodrome_pieces}
 use Rattle.row.specs.declared.Row.{Row}
 use Rattle.rowtext.specs.Fault.{Fault}
 use Rattle.rowtext.specs.Theorems.{Tells}

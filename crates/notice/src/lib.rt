@@ -2,207 +2,146 @@
 
 #![tactic(auto)]
 
-ghost use Rattle.std.specs.Prelude.{◌≡◌, true, leb, length};
-ghost use Rattle.text.specs.Choice.{◌and◌};
-ghost use Rattle.sameness.specs.Same.{same_rows, same_items, same_language};
+ghost use Rattle.std.specs.Prelude.{◌≡◌, ◌+◌, ◌-◌, ◌≤◌, true, length, drop};
+ghost use Rattle.text.specs.Lines.{line_size, lines_size};
 ghost use Rattle.notice.specs.Same.{SaysSame, same_record};
 ghost use Rattle.record.specs.Record.{valid_record};
-ghost use Rattle.record.specs.Notice.{notice_text_at};
 ghost use Rattle.notice.specs.Writing.{Wrote, WroteAt};
 ghost use Rattle.notice.specs.Rewriting.{Rewrote};
 ghost use Rattle.notice.specs.Reading.{reading};
-ghost use Rattle.notice.specs.Code.Below.{Opened, DisagreesAt};
+ghost use Rattle.notice.specs.Code.Below.{Opened, DisagreesAt, answer};
 
 use body::{latest_time, read_rows};
+use fill::has_room;
 use front::read_front;
-use record::{Reading, Record, accepted, mismatch, put_notice, refused, valid_record};
+use record::{Reading, Record, accepted, mismatch, put_notice, record_of, refused, valid_record};
 use remarks::read_remarks;
 use sameness::{same_addresses, same_filing, same_items, same_language, same_rows, same_title};
-use text::{LONGEST, first_line, lines_size, place, refusal};
+use text::refusal::{Fault, Refusal};
+use text::{LONGEST, first_line, lines_size, place};
 
 // What a writing answers, under the name that it had here.
 pub use text::Written;
 
 // ---- Reading
 
+// The place so many bytes before the end of the line behind these.
+fn before_end(message: &[u8], lines: u8, back: usize) -> usize
+    requires inside { lines_size lines message.now ≤ length message.now }
+    requires enough { back ≤ line_size (drop (lines_size lines message.now) message.now) }
+    ensures { result ≡ lines_size lines message.now + (line_size (drop (lines_size lines message.now) message.now) - back) }
+{
+    let start = lines_size(message, lines);
+    start + (first_line(&message[start..]).size - back)
+}
+
 // Where lines that disagree are told to be wrong: 10 at the serial of line 4, 11 at line 5, 12 at the time of line 3. The lines are found anew,
 // since only a refused message needs this. They were read, so the serial is the last four bytes of its line, and the time the last eight.
-fn disagreement_place(message: &[u8], refusal: u8) -> usize
+fn disagreement_place(message: &[u8], refusal: Refusal) -> usize
     requires { Opened message.now }
     ensures { DisagreesAt message.now refusal result }
 {
-    if refusal == refusal::AERODROMES_DIFFER {
-        return lines_size(message, 4);
+    match refusal {
+        Refusal::SerialsDiffer => before_end(message, 3, 4),
+        Refusal::AerodromesDiffer => lines_size(message, 4),
+        _ => before_end(message, 2, 8),
     }
-    if refusal == refusal::SERIALS_DIFFER {
-        let start = lines_size(message, 3);
-        let line = first_line(&message[start..]);
-        return start + (line.size - 4);
-    }
-    let start = lines_size(message, 2);
-    let line = first_line(&message[start..]);
-    start + (line.size - 8)
 }
 
-// Reads a message: 1 first, then line by line, where the first line that does not fit decides; 10, 11, 12 at the end. The parts meet here, so that
-// none is handed on from answer to answer.
+// The record of a message, or its first fault: 1 first, then line by line, where the first line that does not fit decides; 10, 11, 12 at the end. The
+// parts meet here, so that none is handed on from answer to answer.
+fn read_record(message: &[u8]) -> Result<Record, Fault>
+    ensures { answer result ≡ reading message.now }
+{
+    if LONGEST < message.len() {
+        return Err(Refusal::TooLong.at(LONGEST));
+    }
+    let opening = read_front(message)?;
+    let below = &message[opening.next..];
+    let block = read_rows(below).map_err(|f| f.refusal.at(opening.next + f.place))?;
+    let end = opening.next + place(below, block.next);
+    let rest = &message[end..];
+    let remarks = read_remarks(block.closed, rest).map_err(|f| f.refusal.at(end + f.place))?;
+    if let Err(refusal) = mismatch(opening.front, block.rows) {
+        return Err(refusal.at(disagreement_place(message, refusal)));
+    }
+    Ok(record_of(opening.front, block.rows, remarks))
+}
+
+// Reads a message.
 pub fn read(message: &[u8]) -> Reading
     ensures { result ≡ reading message.now }
 {
-    if LONGEST < message.len() {
-        return refused(refusal::TOO_LONG, LONGEST);
+    match read_record(message) {
+        Ok(r) => accepted(r),
+        Err(fault) => refused(fault.refusal.number(), fault.place),
     }
-    let opening = read_front(message);
-    if opening.refusal != 0 {
-        return refused(opening.refusal, opening.place);
-    }
-    let front = opening.front;
-    let at = opening.next;
-    let below = &message[at..];
-    let block = read_rows(below);
-    if block.refusal != 0 {
-        return refused(block.refusal, at + block.place);
-    }
-    let rows = block.rows;
-    let next = place(below, block.next);
-    let remarks = read_remarks(block.closed, &below[next..]);
-    if remarks.refusal != 0 {
-        return refused(remarks.refusal, at + (next + remarks.place));
-    }
-    let refusal = mismatch(front, rows);
-    if refusal != 0 {
-        let told = disagreement_place(message, refusal);
-        return refused(refusal, told);
-    }
-    accepted(front, rows, remarks)
 }
 
 // ---- Writing
-
-// How many bytes the text has with this time in its heading.
-fn text_size(r: Record, time: u32) -> usize
-    requires { valid_record r ≡ true }
-    ensures { result ≡ length (notice_text_at time r) }
-{
-    let mut none = [0; 1];
-    put_notice(&mut none, r, time)
-}
-
-// The text fits into so many bytes: the longest is known, and only a shorter buffer is measured against the text.
-fn has_room(r: Record, time: u32, room: usize) -> bool
-    requires { valid_record r ≡ true }
-    ensures { result ≡ leb (length (notice_text_at time r)) room }
-{
-    if LONGEST <= room {
-        return true;
-    }
-    text_size(r, time) <= room
-}
 
 // Writes the text of a valid record: 14 where the buffer is too short for it.
 fn write_valid(r: Record, time: u32, buffer: &mut [u8]) -> Written
     requires { valid_record r ≡ true }
     ensures { WroteAt time r buffer.old buffer.new result }
 {
-    if has_room(r, time, buffer.len()) {
-        let length = put_notice(buffer, r, time);
-        return Written { refusal: 0, length };
+    if !has_room(buffer.len(), LONGEST, |rest| put_notice(rest, r, time)) {
+        return Written::from(Err(Refusal::BufferTooShort));
     }
-    Written {
-        refusal: refusal::BUFFER_TOO_SHORT,
-        length: 0,
-    }
+    Written::from(Ok(put_notice(buffer, r, time)))
 }
 
 // Writes the text of a record with a heading time that is known: 13, then 14 where the buffer is too short for it. A refused writing touches no byte.
 pub fn write_at(r: Record, time: u32, buffer: &mut [u8]) -> Written
     ensures { WroteAt time r buffer.old buffer.new result }
 {
-    if valid_record(r) {
-        return write_valid(r, time, buffer);
+    if !valid_record(r) {
+        return Written::from(Err(Refusal::InvalidRecord));
     }
-    Written {
-        refusal: refusal::INVALID_RECORD,
-        length: 0,
-    }
+    write_valid(r, time, buffer)
 }
 
 // Writes the text of a record, its heading time worked out: 13, 14.
 pub fn write(r: Record, buffer: &mut [u8]) -> Written
     ensures { Wrote r buffer.old buffer.new result }
 {
-    let rows = r.rows;
-    write_at(r, latest_time(rows), buffer)
+    write_at(r, latest_time(r.rows), buffer)
 }
 
 // Reads a message and writes it anew, or answers the refusal of its reading; a record that was read is valid and is not judged again.
 pub fn rewrite(message: &[u8], buffer: &mut [u8]) -> Written
     ensures { Rewrote message.now buffer.old buffer.new result }
 {
-    let a = read(message);
-    if a.refusal != 0 {
-        return Written {
-            refusal: a.refusal,
-            length: 0,
-        };
+    match read_record(message) {
+        Ok(r) => write_valid(r, latest_time(r.rows), buffer),
+        Err(fault) => Written::from(Err(fault.refusal)),
     }
-    let record = a.record;
-    let rows = record.rows;
-    write_valid(record, latest_time(rows), buffer)
 }
 
 // ---- Sameness
 
 // Part by part, those first that differ soonest.
+#[tactic(auto, using(text::specs::Laws::Tests::and_is), unfolding(crate::specs::Same::same_record))]
 fn same_record(a: Record, b: Record) -> bool
     ensures { result ≡ same_record a b }
 {
-    let x = a.title;
-    let y = b.title;
-    if same_title(x, y) {
-        let x = a.filing;
-        let y = b.filing;
-        if same_filing(x, y) {
-            let x = a.addresses;
-            let y = b.addresses;
-            if same_addresses(x, y) {
-                return same_body(a, b);
-            }
-        }
-    }
-    false
-}
-
-fn same_body(a: Record, b: Record) -> bool
-    ensures { result ≡ (same_rows a.rows b.rows and same_items a.items b.items and same_language a.language b.language) }
-{
-    let x = a.rows;
-    let y = b.rows;
-    if same_rows(x, y) {
-        let x = a.items;
-        let y = b.items;
-        if same_items(x, y) {
-            let x = a.language;
-            let y = b.language;
-            return same_language(x, y);
-        }
-    }
-    false
+    same_title(a.title, b.title)
+        && same_filing(a.filing, b.filing)
+        && same_addresses(a.addresses, b.addresses)
+        && same_rows(a.rows, b.rows)
+        && same_items(a.items, b.items)
+        && same_language(a.language, b.language)
 }
 
 // Whether both messages are accepted and their records are equal.
 pub fn same(a: &[u8], b: &[u8]) -> bool
     ensures { SaysSame a.now b.now result }
 {
-    let x = read(a);
-    if x.refusal != 0 {
+    let Ok(first) = read_record(a) else {
         return false;
-    }
-    let y = read(b);
-    if y.refusal != 0 {
+    };
+    let Ok(second) = read_record(b) else {
         return false;
-    }
-    let first = x.record;
-    let second = y.record;
+    };
     same_record(first, second)
 }

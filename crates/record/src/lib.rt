@@ -4,7 +4,6 @@
 
 ghost use Rattle.std.specs.Prelude.{◌≡◌};
 ghost use Rattle.text.specs.Put.{Put};
-ghost use Rattle.text.specs.Refusals.{number};
 ghost use Rattle.body.specs.Rows.{rows_of};
 ghost use Rattle.record.specs.Record.{blank_record, valid_record};
 ghost use Rattle.record.specs.Notice.{notice_text_at};
@@ -17,7 +16,7 @@ use front::{Front, blank_front, put_front};
 use frontlines::{Addresses, Filing, Title, valid_addresses, valid_filing, valid_title};
 use items::{Items, Language, holds_items, holds_language};
 use remarks::{Remarks, no_remarks, put_remarks};
-use text::refusal::{Fault, Refusal};
+use text::refusal::Refusal;
 
 // What a message says, part by part; the heading time is the latest row time and is not stored.
 #[repr(C)]
@@ -89,12 +88,13 @@ fn blank_record() -> Record
     record_of(blank_front(), blank_rows(), no_remarks())
 }
 
-pub fn refused(fault: Fault) -> Reading
-    ensures { result ≡ refused (number fault.refusal) fault.place }
+// stays: a refusal by its number, as it was promised of.
+pub fn refused(refusal: u8, place: usize) -> Reading
+    ensures { result ≡ refused refusal place }
 {
     Reading {
-        refusal: fault.refusal.number(),
-        place: fault.place,
+        refusal,
+        place,
         record: blank_record(),
     }
 }

@@ -1,5 +1,7 @@
 -- The answers below the rows, evaluated: what is read, and each refusal with what is left where it arises.
-use Rattle.std.specs.Prelude.{◌≡◌, refl, List, [], ◌∷◌, ◌++◌, map, true, false, None, Some, replicate, ℕ}
+use Rattle.std.specs.Prelude.{◌≡◌, refl, List, [], ◌∷◌, ◌++◌, map, true, false, None, Some, Err, replicate, ℕ}
+use Rattle.std.proofs.Common.{lit≤}
+use Rattle.text.specs.declared.refusal.Refusal.TheVariants.{WrongLanguage}
 use Rattle.text.specs.Choice.{◌and◌}
 use Rattle.text.specs.Piece.{bytes}
 use Rattle.text.specs.Names.{is_mark}
@@ -12,7 +14,7 @@ use Rattle.items.specs.ReadItem.{bare_item}
 use Rattle.items.specs.Awareness.{read_awareness, whole_awareness}
 use Rattle.items.specs.Language.{last_is, valid_language}
 use Rattle.remarks.specs.Remarks.{Remarks, read_language_line, read_remarks, remarks}
-use Rattle.remarks.specs.Code.Held.{kept, ending, language_step, behind_items, items_step, next_step}
+use Rattle.remarks.specs.Code.Held.{kept, RemarksHeld, ending, language_step, behind_items, items_step, next_step}
 
 -- one item
 abbrev drifting : List Item
@@ -52,6 +54,8 @@ pub record Answers : Type 0 where
   first : map (λ s. items_step (bytes s)) ("" ∷ ")" ∷ "\nA.)" ∷ []) ≡ refuse 4 [] ∷ refuse 8 (bytes ")") ∷ taken (remarks [] (bytes "A.")) ∷ []
   -- and then the plain language
   steps : map (λ above. next_step above (bytes "A.)")) (Some drifting ∷ None ∷ []) ≡ said (bytes "A.") ∷ items_step (bytes "A.)") ∷ []
+  -- a refusal at its place
+  held : RemarksHeld (bytes "ABC") (refuse 9 (bytes "C")) (Err (record { refusal = WrongLanguage; place = 2 }))
 
 pub answers : Answers
 unfolding ◌and◌ is_mark end_size line_size line_step closed all_but_last last_is valid_language whole_awareness read_awareness ending
@@ -69,4 +73,5 @@ answers = record {
   empty = refl;
   first = refl;
   steps = refl;
+  held = record { within = lit≤ tt; says = refl };
 }

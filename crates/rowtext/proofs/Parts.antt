@@ -1,5 +1,5 @@
 -- The loop over a row's parts, and its two ways out.
-use Rattle.std.specs.Prelude.{◌≡◌, ℕ, ◌+◌, ◌≤◌, List, [], ◌∷◌, Ok, Err, length, drop}
+use Rattle.std.specs.Prelude.{◌≡◌, ℕ, ◌+◌, ◌≤◌, List, [], ◌∷◌, length, drop}
 use Rattle.std.proofs.Common.{refl, ap, arith, length-drop, drop-drop}
 use Rattle.text.specs.Out.{taken}
 use Rattle.text.specs.Refusals.{number}
@@ -9,7 +9,7 @@ use Rattle.text.specs.declared.refusal.Fault.{Fault}
 use Rattle.row.specs.Row.{blank_row}
 use Rattle.row.specs.declared.Row.{Row}
 use Rattle.rowtext.specs.Reading.{find_row, row_answer}
-use Rattle.rowtext.specs.Code.Filling.{parts, fill_group, fill_from, Filled}
+use Rattle.rowtext.specs.Code.Filling.{parts, fill_group, fill_from}
 use Rattle.rowtext.specs.Laws.Filling.{filling-is}
 use Rattle.rowtext.specs.declared.Part.{Part}
 
@@ -27,14 +27,13 @@ module _ (l : List ℕ) (at : ℕ) (gs : List Part) (r : Row) (inv : fill_from g
     pub within : at ≤ length l → (n : ℕ) → n ≤ length part → at + n ≤ length l
     within h n k = omega (arith, ap length p, length-drop at l)
 
-    pub step-on : {q : Row} {n : ℕ} → Filled (fill_group g) part r q (Ok n) → fill_from hs q (drop (at + n) l) ≡ fill_from parts blank_row l
+    pub step-on : (n : ℕ) {q : Row} → fill_group g r part ≡ taken (q, drop n part) → fill_from hs q (drop (at + n) l) ≡ fill_from parts blank_row l
     unfolding fill_from
-    step-on {n = n} f = rw (e, ← p, f.says, p, drop-drop n at l) at inv
+    step-on n f = rw (e, ← p, f, p, drop-drop n at l) at inv
 
-    pub way-off : {q : Row} {f : Fault} → at ≤ length l → Filled (fill_group g) part r q (Err f)
-        → Refused l (find_row l) (record { refusal = f.refusal; place = at + f.place })
+    pub way-off : {f : Fault} → at ≤ length l → Refused part (fill_group g r part) f → Refused l (find_row l) (record { refusal = f.refusal; place = at + f.place })
     unfolding fill_from
-    way-off {f = f} h k = record {
+    way-off {f} h k = record {
       within = within h f.place k.within;
       says = rw (filling-is l, ← inv, e, ← p, k.says, p, drop-drop f.place at l);
     }

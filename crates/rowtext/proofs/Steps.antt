@@ -1,11 +1,12 @@
 -- One step of each reader of a row.
-use Rattle.std.specs.Prelude.{◌≡◌, ℕ, ◌<◌, ◌≤◌, Option, None, Some, Result, Err, unwrap_or, Bool, true, false, eqb, leb, List, [], ◌∷◌, length, drop}
+use Rattle.std.specs.Prelude.{◌≡◌, ℕ, ◌<◌, ◌≤◌, Option, None, Some, unwrap_or, Bool, true, false, eqb, leb, List, [], ◌∷◌, length, drop}
 use Rattle.std.proofs.Common.{refl, ◌∙◌, get_or, drop-cons, drop_of_length-le, arith}
 use Rattle.text.specs.Choice.{◌and◌, all, is_empty}
 use Rattle.text.specs.Read.{Got, got, skip, read_if, read_gap}
 use Rattle.text.specs.Numbers.{read_digits}
 use Rattle.text.specs.Out.{Out, refuse}
 use Rattle.text.specs.Refusals.{number}
+use Rattle.text.specs.Code.Faults.{Refused}
 use Rattle.text.specs.Code.Held.{Held}
 use Rattle.text.specs.Laws.Base.{Laws}
 use Rattle.text.specs.declared.Found.{Found}
@@ -16,9 +17,8 @@ use Rattle.thirds.specs.Code.Held.{three}
 use Rattle.thirds.specs.Laws.Groups.{Shown}
 use Rattle.thirds.specs.declared.Group.{Group}
 use Rattle.thirds.specs.declared.Group.TheVariants.{Codes, Coverages, Depths}
-use Rattle.row.specs.declared.Row.{Row}
 use Rattle.rowtext.specs.Reading.{parted, each, read_width, code_group, coverage_group, depth_group}
-use Rattle.rowtext.specs.Code.Filling.{may_stand, alone_group, Filled, FaultAt, HeldWidth}
+use Rattle.rowtext.specs.Code.Filling.{may_stand, alone_group, FaultAt, HeldWidth}
 use Rattle.rowtext.specs.Laws.Short.{alone-got}
 use Rattle.rowtext.specs.Laws.Tail.{width-laws}
 
@@ -40,14 +40,8 @@ some_left [] h = absurd (h refl)
 some_left (x ∷ m) h = refl
 
 -- the part that k should be is at fault
-pub faulted : (fill : Row → List ℕ → Out (Row × List ℕ)) {m k : List ℕ} {was : Row} {n : Refusal} {f : Fault} → FaultAt m k n f → fill was m ≡ refuse (number n) (skip k)
-    → Filled fill m was was (Err f)
-faulted fill f q = record { within = f.place.within; says = q ∙ rw (f.refused, f.place.left); kept = refl }
-
--- the same of a reading that comes to another
-pub as_other : (fill other : Row → List ℕ → Out (Row × List ℕ)) {m : List ℕ} {was r : Row} {a : Result ℕ Fault} → fill was m ≡ other was m → Filled other m was r a
-    → Filled fill m was r a
-as_other fill other e h = record { within = h.within; says = e ∙ h.says; kept = h.kept }
+pub faulted : {A : Type 0} {o : Out A} {m k : List ℕ} {n : Refusal} {f : Fault} → FaultAt m k n f → o ≡ refuse (number n) (skip k) → Refused m o f
+faulted f q = record { within = f.place.within; says = q ∙ rw (f.refused, f.place.left) }
 
 -- the groups that are read by themselves
 pub codes_alone : (m : List ℕ) → code_group m ≡ alone_group Codes m

@@ -33,7 +33,7 @@ const NR: u32 = description::NR as u32;
 
 // The parts of a row, in the order in which they stand: coverages, depths and descriptions are one, since a short row has the last alone.
 #[derive(Clone, Copy)]
-pub enum Part {
+enum Part {
     Time,
     Runway,
     Codes,
@@ -90,8 +90,8 @@ fn runway_group(s: &[u8]) -> Option<RunwayFound>
     ensures { HeldRunway s.now (runway_group s.now) result }
 {
     let gap = word(s, 0, b" ", 0)?;
-    read_runway(s, gap.next).filter(|f| valid_runway(HIGHEST_RUNWAY, f.number, f.side)
-        && parted(s, f.next))
+    let f = read_runway(s, gap.next)?;
+    (valid_runway(HIGHEST_RUNWAY, f.number, f.side) && parted(s, f.next)).then_some(f)
 }
 
 #[tactic(auto, unfolding(crate::specs::Code::Filling::fill_group))]
@@ -135,25 +135,17 @@ fn alone_group(group: Group, s: &[u8], at: usize) -> Option<Trio>
 
 // The third with its number of a group.
 #[tactic(auto, unfolding(thirds::specs::Groups::highest))]
-fn with_number(group: Group, t: Third, x: u32) -> Third
+fn with_number(group: Group, mut t: Third, x: u32) -> Third
     requires { x ≤ highest group }
     ensures { result ≡ with_number group t x }
 {
     match group {
-        Group::Codes => Third { code: x as u8, ..t },
-        Group::Coverages => Third {
-            coverage: x as u8,
-            ..t
-        },
-        Group::Depths => Third {
-            depth: x as u16,
-            ..t
-        },
-        Group::Descriptions => Third {
-            description: x as u8,
-            ..t
-        },
+        Group::Codes => t.code = x as u8,
+        Group::Coverages => t.coverage = x as u8,
+        Group::Depths => t.depth = x as u16,
+        Group::Descriptions => t.description = x as u8,
     }
+    t
 }
 
 // The row with its numbers of a group.
@@ -161,13 +153,7 @@ fn with_group(group: Group, row: Row, numbers: [u32; 3]) -> Row
     requires { Shown group (three numbers) }
     ensures { result ≡ with_group group row (three numbers) }
 {
-    let [a, b, c] = row.thirds;
-    let [x, y, z] = numbers;
-    let thirds = [
-        with_number(group, a, x),
-        with_number(group, b, y),
-        with_number(group, c, z),
-    ];
+    let thirds = std::array::from_fn(|k| with_number(group, row.thirds[k], numbers[k]));
     Row { thirds, ..row }
 }
 

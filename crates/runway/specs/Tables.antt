@@ -1,5 +1,8 @@
 -- The values of the rules, evaluated: a changed numeral or word fails here.
-use Rattle.std.specs.Prelude.{ℕ, ◌≡◌, refl, List, [], ◌∷◌, map, Bool, true, false, not}
+use Rattle.std.specs.Prelude.{ℕ, ◌≡◌, refl, List, [], ◌∷◌, map, Bool, true, false, not, Some, None}
+use Rattle.std.proofs.Common.{lit≤}
+use Rattle.text.specs.Read.{misfit, got}
+use Rattle.runway.specs.Code.Held.{HeldRunway}
 use Rattle.text.specs.Choice.{◌and◌, all}
 use Rattle.text.specs.Piece.{bytes}
 use Rattle.runway.specs.Time.{is_short_month, days_of, real_day, real_clock, real_time, in_season, later}
@@ -77,7 +80,9 @@ pub record Runways : Type 0 where
   pub names : map side_name (0 ∷ 1 ∷ 2 ∷ 3 ∷ []) ≡ [] ∷ bytes "L" ∷ bytes "C" ∷ bytes "R" ∷ []
   pub of-bytes : map side_of (bytes "LCRX") ≡ 1 ∷ 2 ∷ 3 ∷ 0 ∷ []
   pub are-sides : map is_side (bytes "LCRX") ≡ true ∷ true ∷ true ∷ false ∷ []
+  pub told : HeldRunway (bytes "18R A") (got (18, 3) (bytes " A")) (Some (record { number = 18; side = 3; next = 3 }))
+  pub none : HeldRunway (bytes "R") misfit None
 
 pub runways : Runways
 unfolding valid_runway ◌and◌
-runways = record { numbers = refl; higher = refl; sides = refl; names = refl; of-bytes = refl; are-sides = refl }
+runways = record { numbers = refl; higher = refl; sides = refl; names = refl; of-bytes = refl; are-sides = refl; told = record { within = lit≤ tt; says = refl }; none = record { within = lit≤ tt; says = refl } }

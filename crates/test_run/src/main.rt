@@ -9,9 +9,8 @@ mod observations;
 mod output;
 mod rows;
 
-ghost use Rattle.std.specs.Prelude.{◌≤◌, length, IfSome};
+ghost use Rattle.std.specs.Prelude.{◌≤◌, length, IfOk, IfSome};
 
-use listing::input::read_full;
 use messages::print_message;
 use observations::print_observations;
 use rows::print_row;
@@ -91,6 +90,22 @@ fn print_parts(rt: &impl Print, input: &[u8]) -> io::Result<()> {
         at = end + 1;
     }
     Ok(())
+}
+
+// Reads until `held` is full or the input ends, and answers how many bytes it put.
+// stays: no plainer: the lister and the test each have it, since what an input gives no promise of a library could say.
+fn read_full(input: &mut impl Read, held: &mut [u8]) -> io::Result<usize>
+    ensures { IfOk result (λ n. n ≤ length held.new) }
+{
+    let mut n = 0;
+    while n < held.len() {
+        let got = input.read(&mut held[n..])?;
+        if got == 0 {
+            break;
+        }
+        n += got;
+    }
+    Ok(n)
 }
 
 fn run(rt: &impl Print, input: &mut impl Read, held: &mut [u8]) -> io::Result<()> {

@@ -9,7 +9,7 @@ use Rattle.text.specs.Numbers.{digits, read_digits}
 use Rattle.surface.specs.Descriptions.{not_reported, compacted_snow, dry_snow, dry_snow_on_compacted_snow, dry_snow_on_ice, frost, ice, slush, standing_water}
 use Rattle.surface.specs.Descriptions.{water_on_compacted_snow, wet, wet_ice, wet_snow, wet_snow_on_compacted_snow, wet_snow_on_ice, dry}
 use Rattle.thirds.specs.Code.Begin.{beginning}
-use Rattle.thirds.specs.Code.Held.{HeldThree, three}
+use Rattle.thirds.specs.Code.Held.{HeldThree, three, joint_text}
 use Rattle.thirds.specs.Groups.{description_order, measure_pieces, read_measure, read_coverage, read_description}
 use Rattle.thirds.specs.Groups.{third_pieces, read_third, highest, Three, group_pieces, read_group}
 use Rattle.thirds.specs.declared.Group.{Group}
@@ -64,10 +64,11 @@ pub record Texts : Type 0 where
       ∷ (water_on_compacted_snow ∷ wet_snow_on_compacted_snow ∷ wet_snow_on_ice ∷ wet_snow ∷ wet_ice ∷ wet ∷ [])
       ∷ []
       ∷ []
+  joints : map joint_text (0 ∷ 1 ∷ 2 ∷ []) ≡ bytes " " ∷ bytes "/" ∷ bytes "/" ∷ []
 
 pub texts : Texts
 unfolding spell digits measure_pieces third_pieces beginning
-texts = record { code = refl; coverage = refl; depth = refl; description = refl; joined = refl; begun = refl }
+texts = record { code = refl; coverage = refl; depth = refl; description = refl; joined = refl; begun = refl; joints = refl }
 
 pub record Readings : Type 0 where
   -- each description in its own text, whatever else begins as it does

@@ -5,7 +5,7 @@ use Rattle.awareness.proofs.LineReading.{SoFar}
 use Rattle.awareness.proofs.read_awareness.Given as goal
 
 abbrev pub invariant-items : goal.invariant-items
-invariant-items l = SoFar l.line l.items l.count l.end l.at
+invariant-items l = SoFar l.line l.read.items l.read.count l.end l.at
 
 abbrev pub decreases-items : goal.decreases-items
-decreases-items l = most_items - l.count
+decreases-items l = most_items - l.read.count

@@ -7,4 +7,4 @@ use Rattle.boardnotice.proofs.shown_rows.Given as goal
 
 abbrev pub invariant-loop-r : goal.invariant-loop-r
 invariant-loop-r l =
-    (l.count ≤ l.r-index) × (length l.shown ≡ 8) × (rows_onto l.count l.shown (reported (drop l.r-index l.r-items)) ≡ make_rows (reported l.r-items))
+    (l.count ≤ l.r-index) × (length l.shown ≡ 8) × (rows_onto l.count l.shown (reported (drop l.r-index l.rows)) ≡ make_rows (reported l.rows))

@@ -1,7 +1,8 @@
-use Rattle.text.specs.Laws.Put.{lent-rest}
+use Rattle.std.proofs.Common.{rules}
 use Rattle.record.specs.Laws.{notice-latest}
+use Rattle.record.specs.Notice.{notice_text_at}
 use Rattle.listing.proofs.notice_at.Goals as goal
 
 pub returns : goal.returns
 returns c =
-    rw (← (notice-latest _), ← c.latest_time-time.ensures) (lent-rest c.place-start.ensures c.put_notice-n.ensures c.told_behind.ensures)
+    rw (← (notice-latest _), ← c.latest_time-time.ensures) (c.in_rest.ensures (notice_text_at c.latest_time-time.result c.args.r) (search rules))

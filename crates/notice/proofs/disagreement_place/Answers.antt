@@ -1,45 +1,30 @@
-use native.Mathlib.Omega.{arith}
-use mathlib.Core.Path.{◌∙◌}
-use borrow.Author.Tests.{ne_eqb}
+use Rattle.std.proofs.Common.{◌∙◌, ne_eqb}
+use Rattle.text.specs.Laws.Refusals.{number-one}
 use Rattle.notice.specs.Code.Below.{disagree_on}
 use Rattle.notice.specs.Laws.Disagree.{time-back, serial-back, aerodrome-at}
-use Rattle.notice.proofs.Judging.{start-inside, back-enough, back-placed, back_inside}
 use Rattle.notice.proofs.disagreement_place.Goals as goal
 
-pub returns-then-refusal-eq-AERODROMES_DIFFER : goal.returns-then-refusal-eq-AERODROMES_DIFFER
+pub before_end-requires-clause-inside : goal.before_end-requires-clause-inside
+before_end-requires-clause-inside c = (serial-back c.requires).inside
+
+pub before_end-requires-clause-enough : goal.before_end-requires-clause-enough
+before_end-requires-clause-enough c = (serial-back c.requires).enough
+
+pub before_end-requires-in_default : goal.before_end-requires-in_default
+before_end-requires-in_default c = let b = time-back c.requires in record { inside = b.inside; enough = b.enough }
+
+pub returns-in-SerialsDiffer : goal.returns-in-SerialsDiffer
 unfolding disagree_on
-returns-then-refusal-eq-AERODROMES_DIFFER c = λ o. c.lines_size.ensures ∙ rw c.if-refusal-eq-AERODROMES_DIFFER.true (aerodrome-at o)
+returns-in-SerialsDiffer c = λ o. rw c.in-SerialsDiffer.is (c.before_end.ensures ∙ (serial-back o).placed)
 
-pub slice_bounds-first_line-count : goal.slice_bounds-first_line-count
-slice_bounds-first_line-count c = omega (arith, start-inside (serial-back c.requires) c.lines_size-start.ensures)
-
-pub slice_bounds-first_line-start : goal.slice_bounds-first_line-start
-slice_bounds-first_line-start c = omega (arith, start-inside (serial-back c.requires) c.lines_size-start.ensures)
-
-pub overflow_sub-result : goal.overflow_sub-result
-overflow_sub-result c = omega (arith, back-enough (serial-back c.requires) c.lines_size-start.ensures c.first_line-line.ensures)
-
-pub overflow_add-result : goal.overflow_add-result
-overflow_add-result c = omega (arith, back-enough (serial-back c.requires) c.lines_size-start.ensures c.first_line-line.ensures, back_inside (serial-back c.requires) c.lines_size-start.ensures c.first_line-line.ensures)
-
-pub returns-then-refusal-eq-SERIALS_DIFFER : goal.returns-then-refusal-eq-SERIALS_DIFFER
+pub returns-in-AerodromesDiffer : goal.returns-in-AerodromesDiffer
 unfolding disagree_on
-returns-then-refusal-eq-SERIALS_DIFFER c =
-    λ o. back-placed (serial-back o) c.lines_size-start.ensures c.first_line-line.ensures ∙ rw c.if-refusal-eq-SERIALS_DIFFER.true
+returns-in-AerodromesDiffer c = λ o. rw c.in-AerodromesDiffer.is (c.lines_size.ensures ∙ aerodrome-at o)
 
-pub slice_bounds-first_line-count-2 : goal.slice_bounds-first_line-count-2
-slice_bounds-first_line-count-2 c = omega (arith, start-inside (time-back c.requires) c.lines_size-start-2.ensures)
-
-pub slice_bounds-first_line-start-2 : goal.slice_bounds-first_line-start-2
-slice_bounds-first_line-start-2 c = omega (arith, start-inside (time-back c.requires) c.lines_size-start-2.ensures)
-
-pub overflow_sub-result-2 : goal.overflow_sub-result-2
-overflow_sub-result-2 c = omega (arith, back-enough (time-back c.requires) c.lines_size-start-2.ensures c.first_line-line-2.ensures)
-
-pub overflow_add-result-2 : goal.overflow_add-result-2
-overflow_add-result-2 c = omega (arith, back-enough (time-back c.requires) c.lines_size-start-2.ensures c.first_line-line-2.ensures, back_inside (time-back c.requires) c.lines_size-start-2.ensures c.first_line-line-2.ensures)
-
-pub returns : goal.returns
+pub returns-in_default : goal.returns-in_default
 unfolding disagree_on
-returns c =
-    λ o. back-placed (time-back o) c.lines_size-start-2.ensures c.first_line-line-2.ensures ∙ rw (ne_eqb _ _ c.if-refusal-eq-SERIALS_DIFFER.false, ne_eqb _ _ c.if-refusal-eq-AERODROMES_DIFFER.false)
+returns-in_default c = λ o.
+    let r = c.args.refusal in
+    let s = ne_eqb _ _ (λ e. c.in_default.not-SerialsDiffer (number-one r _ e)) in
+    let a = ne_eqb _ _ (λ e. c.in_default.not-AerodromesDiffer (number-one r _ e)) in
+    rw (s, a) (c.before_end-in_default.ensures ∙ (time-back o).placed)

@@ -1,14 +1,18 @@
 -- What is read below the front, and how the code answers it.
-use Rattle.std.specs.Prelude.{ℕ, ◌≡◌, List, [], cond, eqb}
+use Rattle.std.specs.Prelude.{ℕ, ◌≡◌, List, [], cond, eqb, Result, Ok, Err}
 use Rattle.text.specs.Lines.{Cut, onward, cuts}
 use Rattle.text.specs.Out.{Out, taken, place, next}
-use Rattle.text.specs.Refusals.{serials_differ, aerodromes_differ}
+use Rattle.text.specs.Refusals.{number, serials_differ, aerodromes_differ}
+use Rattle.text.specs.declared.refusal.Refusal.{Refusal}
+use Rattle.text.specs.declared.refusal.Fault.{Fault}
 use Rattle.body.specs.Rows.{most_rows, read_rows}
 use Rattle.remarks.specs.Remarks.{read_remarks}
 use Rattle.front.specs.Places.{time_on, serial_on}
 use Rattle.front.specs.Code.Front.{heading_of, front_count, Opening, unopened, fill_lines}
 use Rattle.record.specs.declared.Record.{Record}
+use Rattle.record.specs.declared.Reading.{Reading}
 use Rattle.record.specs.Record.{make_record}
+use Rattle.record.specs.Answer.{accepted, refused}
 use Rattle.notice.specs.Reading.{agreeing}
 
 -- what is read below the front, and whether it agrees with it
@@ -31,5 +35,10 @@ unfoldable pub disagree_on : ℕ → Opening → List ℕ
 disagree_on n o = cond (eqb n serials_differ) (serial_on o.fourth) (cond (eqb n aerodromes_differ) (onward o.fifth) (time_on o.third))
 
 -- and its place, told by this answer
-abbrev pub DisagreesAt : List ℕ → ℕ → ℕ → Type 0
-DisagreesAt m n r = (o : Opened m) → r ≡ place m (disagree_on n o.opening)
+abbrev pub DisagreesAt : List ℕ → Refusal → ℕ → Type 0
+DisagreesAt m n r = (o : Opened m) → r ≡ place m (disagree_on (number n) o.opening)
+
+-- the answer to a message whose record was read, or refused by this fault
+abbrev pub answer : Result Record Fault → Reading
+answer (Ok r) = accepted r
+answer (Err f) = refused (number f.refusal) f.place

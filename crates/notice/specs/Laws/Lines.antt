@@ -20,7 +20,8 @@ use Rattle.items.specs.Laws.Awareness.{awareness-laws}
 use Rattle.items.specs.Laws.Language.{language-laws}
 use Rattle.frontlines.specs.Addresses.{read_addresses}
 use Rattle.frontlines.specs.Filing.{read_filing}
-use Rattle.frontlines.specs.Heading.{Heading, read_heading, serial_pieces, read_serial_line, aerodrome_pieces, read_aerodrome, is_serial, valid_title}
+use Rattle.frontlines.specs.declared.Heading.{Heading}
+use Rattle.frontlines.specs.Heading.{read_heading, serial_pieces, read_serial_line, aerodrome_pieces, read_aerodrome, is_serial, valid_title}
 use Rattle.frontlines.specs.Laws.Addresses.{addresses-laws}
 use Rattle.frontlines.specs.Laws.Filing.{filing-laws}
 use Rattle.frontlines.specs.Laws.Heading.{heading-laws, serial-line-laws, aerodrome-laws}

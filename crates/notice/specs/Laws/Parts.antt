@@ -10,7 +10,8 @@ use Rattle.frontlines.specs.declared.Addresses.{Addresses}
 use Rattle.frontlines.specs.declared.Filing.{Filing}
 use Rattle.frontlines.specs.Addresses.{addresses_pieces, valid_addresses}
 use Rattle.frontlines.specs.Filing.{filing_pieces, valid_filing}
-use Rattle.frontlines.specs.Heading.{Heading, heading_pieces, valid_title, valid_heading, serial_pieces, aerodrome_pieces}
+use Rattle.frontlines.specs.declared.Heading.{Heading}
+use Rattle.frontlines.specs.Heading.{heading_pieces, valid_title, valid_heading, serial_pieces, aerodrome_pieces}
 use Rattle.body.specs.Rows.{rows_of, latest}
 use Rattle.remarks.specs.Remarks.{Remarks, remarks, remark_lines}
 use Rattle.items.specs.Parts.{items_of, language_of, none_or_language}

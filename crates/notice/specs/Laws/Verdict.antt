@@ -15,7 +15,7 @@ use Rattle.frontlines.specs.declared.Addresses.{Addresses}
 use Rattle.frontlines.specs.declared.Filing.{Filing}
 use Rattle.frontlines.specs.Addresses.{addresses_pieces, valid_addresses}
 use Rattle.frontlines.specs.Filing.{filing_pieces, valid_filing}
-use Rattle.frontlines.specs.Heading.{Heading}
+use Rattle.frontlines.specs.declared.Heading.{Heading}
 use Rattle.frontlines.specs.Laws.Addresses.{addresses-laws}
 use Rattle.frontlines.specs.Laws.Filing.{filing-laws}
 use Rattle.frontlines.specs.Laws.Heading.{heading-laws, serial-line-laws, aerodrome-laws}

@@ -21,7 +21,8 @@ use Rattle.frontlines.specs.declared.Addresses.{Addresses}
 use Rattle.frontlines.specs.declared.Filing.{Filing}
 use Rattle.frontlines.specs.Addresses.{read_addresses}
 use Rattle.frontlines.specs.Filing.{read_filing}
-use Rattle.frontlines.specs.Heading.{Heading, read_heading, read_serial_line, read_aerodrome}
+use Rattle.frontlines.specs.declared.Heading.{Heading}
+use Rattle.frontlines.specs.Heading.{read_heading, read_serial_line, read_aerodrome}
 use Rattle.frontlines.specs.Laws.Addresses.{addresses-laws}
 use Rattle.frontlines.specs.Laws.Filing.{filing-laws}
 use Rattle.frontlines.specs.Laws.Heading.{heading-laws, serial-line-laws, aerodrome-laws}

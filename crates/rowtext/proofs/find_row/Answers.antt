@@ -8,8 +8,8 @@ parts-preserved c =
     let l = c.parts in
     let i = l.invariant in
     let s = c.in-Ok.ensures in (
-      within m l.at l.parts.rest.now l.row i.1 _ _ c.in-Some.ensures.steps _ (part-all l.at m) i.0 _ s.within,
-      step-on m l.at l.parts.rest.now l.row i.1 _ _ c.in-Some.ensures.steps _ (part-all l.at m) s,
+      within m l.at l.parts.rest.now l.row i.1 _ _ c.in-Some.ensures.steps _ (part-all l.at m) i.0 _ s.0,
+      step-on m l.at l.parts.rest.now l.row i.1 _ _ c.in-Some.ensures.steps _ (part-all l.at m) c.in-Ok.next s.1,
     )
 
 pub returns-in_default : goal.returns-in_default
@@ -20,4 +20,4 @@ returns-in-Err c =
     let m = c.args.line.now in
     let l = c.parts in
     let i = l.invariant in
-    rw c.at.ensures (way-off m l.at l.parts.rest.now l.row i.1 _ _ c.in-Some.ensures.steps _ (part-all l.at m) i.0 c.in-Err.ensures)
+    rw c.at.ensures (way-off m l.at l.parts.rest.now l.row i.1 _ _ c.in-Some.ensures.steps _ (part-all l.at m) i.0 c.in-Err.ensures.0)

@@ -13,10 +13,8 @@ with_rest-filled-requires c = (
 )
 
 pub returns-then-valid_depths : goal.returns-then-valid_depths
-returns-then-valid_depths c =
-    record {
-      within = c.in_ok-k.ensures.within;
-      says = full_is c.args.row.now c.with_rest-filled.result c.args.s.now c.in_ok-v.ensures.says c.in_ok-d.ensures.says c.in_ok-k.ensures.says c.with_rest-filled.ensures
-          (sym c.valid_coverages.ensures ∙ c.if-valid_coverages.true) (sym c.valid_depths.ensures ∙ c.if-valid_depths.true);
-      kept = tt;
-    }
+returns-then-valid_depths c = (
+  c.in_ok-k.ensures.within,
+  full_is c.args.row.now c.with_rest-filled.result c.args.s.now c.in_ok-v.ensures.says c.in_ok-d.ensures.says c.in_ok-k.ensures.says c.with_rest-filled.ensures
+      (sym c.valid_coverages.ensures ∙ c.if-valid_coverages.true) (sym c.valid_depths.ensures ∙ c.if-valid_depths.true),
+)

@@ -1,14 +1,14 @@
 -- A row that is filled group by group, as the code reads it.
-use Rattle.std.specs.Prelude.{ℕ, ◌<◌, ◌≤◌, ◌≡◌, List, [], ◌∷◌, cond, Bool, true, Result, Ok, Err, IfErr, MatchResult, length, drop}
+use Rattle.std.specs.Prelude.{ℕ, ◌<◌, ◌≤◌, ◌≡◌, List, [], ◌∷◌, cond, Bool, true, Result, MatchResult, length, drop}
 use Rattle.text.specs.Choice.{all, is_empty}
 use Rattle.text.specs.Read.{Got, got, skip, read_seq, read_if}
-use Rattle.text.specs.Out.{Out, refuse, taken, next, fit, demand}
+use Rattle.text.specs.Out.{Out, taken, next, fit, demand}
 use Rattle.text.specs.declared.Found.{Found}
 use Rattle.text.specs.Code.Held.{Reached}
 use Rattle.text.specs.declared.refusal.Refusal.{Refusal}
 use Rattle.text.specs.declared.refusal.Fault.{Fault}
 use Rattle.text.specs.Code.Faults.{Refused}
-use Rattle.text.specs.Refusals.{no_row, wrong_runway, wrong_codes, wrong_coverage_or_depth, wrong_descriptions, wrong_width, number}
+use Rattle.text.specs.Refusals.{no_row, wrong_runway, wrong_codes, wrong_coverage_or_depth, wrong_descriptions, wrong_width}
 use Rattle.surface.specs.Third.{is_code, valid_coverage, valid_depth}
 use Rattle.surface.specs.declared.Third.{Third}
 use Rattle.thirds.specs.Groups.{Three, read_group}
@@ -102,26 +102,13 @@ unfoldable pub fill_from : List Part → Row → List ℕ → Out (Row × List �
 fill_from [] r m = taken (r, m)
 fill_from (g ∷ gs) r m = next (fill_group g r m) (λ p. fill_from gs p.0 p.1)
 
--- what an answer of the code says of m: a value, or a refusal and what is left at its place
-abbrev pub answered : {T A : Type 0} → (T → A) → List ℕ → Result T Fault → Out A
-answered told m (Ok x) = taken (told x)
-answered told m (Err f) = refuse (number f.refusal) (drop f.place m)
-
--- the place that it names: behind a part that is read, or of a fault
-abbrev pub place_of : Result ℕ Fault → ℕ
-place_of (Ok next) = next
-place_of (Err f) = f.place
-
--- the answer a to what `fill` reads of m into a row, which it leaves as r: as it was where it is refused
-pub record Filled (fill : Row → List ℕ → Out (Row × List ℕ)) (m : List ℕ) (was r : Row) (a : Result ℕ Fault) : Type 0 where
-  pub within : place_of a ≤ length m
-  pub says : fill was m ≡ answered (λ next. (r, drop next m)) m a
-  pub kept : IfErr a (λ _. r ≡ was)
+-- the answer a to what `fill` reads of m into a row, which it leaves as r: up to a place, or not at all where it is refused
+abbrev pub Filled : (fill : Row → List ℕ → Out (Row × List ℕ)) (m : List ℕ) (was r : Row) → Result ℕ Fault → Type 0
+Filled fill m was r a = MatchResult a (λ next. (next ≤ length m) × (fill was m ≡ taken (r, drop next m))) (λ f. Refused m (fill was m) f × (r ≡ was))
 
 -- the answer a to the judgement of thirds whose coverages start at m, and whose depths start at m₄
-pub record Judged (ts : List Third) (m m₄ : List ℕ) (a : Result (Unit {0}) Fault) : Type 0 where
-  pub within : IfErr a (λ f. f.place ≤ length m)
-  pub says : judged ts m m₄ (taken (tt {0})) ≡ answered (λ _. tt {0}) m a
+abbrev pub Judged : (ts : List Third) (m m₄ : List ℕ) → Result (Unit {0}) Fault → Type 0
+Judged ts m m₄ a = let o : Out (Unit {0}) = judged ts m m₄ (taken tt) in MatchResult a (λ _. o ≡ taken tt) (Refused m o)
 
 -- the answer r to the reading of a whole line
 abbrev pub RowFound : List ℕ → Result Row Fault → Type 0
