@@ -12,7 +12,7 @@ ghost use Rattle.text.specs.Read.{read_as, read_if, read_gap, read_text};
 ghost use Rattle.items.specs.Awareness.{in_order, stands_behind, whole_awareness};
 ghost use Rattle.items.specs.Item.{is_taxiway, valid_item};
 ghost use Rattle.items.specs.ItemText.{edge_name};
-ghost use Rattle.items.specs.ReadItem.{sayings, saying, taxi_sayings, taxi_saying, edges, read_length, read_bank, read_detail, read_runway_form, runway_item, bare_item, read_taxiway, read_some_taxiways, read_taxi_form, is_apron, apron_item, read_apron_form, read_body};
+ghost use Rattle.items.specs.ReadItem.{sayings, saying, taxi_sayings, taxi_saying, edges, read_length, read_bank, read_detail, read_runway_form, bare_item, read_taxiway, read_some_taxiways, read_taxi_form, is_apron, apron_item, read_apron_form, read_body};
 ghost use Rattle.awareness.specs.Code.Held.{HeldText, HeldDetail, HeldItem, items_answer};
 ghost use Rattle.awareness.specs.Code.Named.{in_slots, HeldTaxiways};
 

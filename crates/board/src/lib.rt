@@ -7,7 +7,6 @@ ghost use Rattle.std.specs.Prelude.{◌≡◌, ◌<◌, ◌≤◌, length, take,
 ghost use Rattle.std.specs.List.{list_all, zip};
 ghost use Rattle.text.specs.Choice.{all};
 ghost use Rattle.text.specs.Refusals.{number};
-ghost use Rattle.row.specs.Row.{is_blank_row};
 ghost use Rattle.board.specs.Board.{is_aerodrome, blank_runway, is_blank_runway, rises, rising, names, fits_place, fit_places, latest_shown, is_desk, valid_opening, valid_board, blank_board, answer, opening, refused_opening};
 ghost use Rattle.board.specs.Report.{place_of, place_for, is_news, refusal, newest, report};
 ghost use Rattle.board.specs.Laws.Latest.{Goods};

@@ -3,7 +3,6 @@
 #![tactic(auto)]
 
 ghost use Rattle.std.specs.Prelude.{◌≡◌, [], MatchOption};
-ghost use Rattle.text.specs.Piece.{canonical};
 ghost use Rattle.text.specs.Read.{misfit, got};
 ghost use Rattle.text.specs.Refusals.{number};
 ghost use Rattle.text.specs.Put.{Put};

@@ -2,14 +2,14 @@
 
 #![tactic(auto)]
 
-ghost use Rattle.std.specs.Prelude.{not, eqb, ◌≡◌, ◌≤◌, length, take, drop};
-ghost use Rattle.text.specs.Choice.{◌and◌, all, member, head_is};
+ghost use Rattle.std.specs.Prelude.{not, eqb, ◌≡◌, take, drop};
+ghost use Rattle.text.specs.Choice.{◌and◌, member, head_is};
 ghost use Rattle.text.specs.Names.{is_name};
 ghost use Rattle.text.specs.Piece.{canonical, verbatim};
 ghost use Rattle.text.specs.Put.{Put};
 ghost use Rattle.text.specs.Arrays.{slots};
-ghost use Rattle.items.specs.Item.{taxiway_size, letters, on_runway, highest_for, is_between, runway_fits, amount_fits, edge_fits, count_fits, valid_slot, is_new, slots_fit, taxiways_fit, name_fits, numbers_fit, valid_item};
-ghost use Rattle.items.specs.Awareness.{same_runway, other_apron, may_repeat, may_follow, in_order, sound_items, is_blank, no_numbers, blank_item, is_blank_item};
+ghost use Rattle.items.specs.Item.{taxiway_size, letters, on_runway, highest_for, runway_fits, amount_fits, edge_fits, count_fits, valid_slot, is_new, slots_fit, taxiways_fit, name_fits, numbers_fit, valid_item};
+ghost use Rattle.items.specs.Awareness.{same_runway, other_apron, may_repeat, may_follow, in_order, sound_items, no_numbers, blank_item, is_blank_item};
 ghost use Rattle.items.specs.Parts.{items_of, language_of, holds_items, holds_language};
 ghost use Rattle.items.specs.Language.{space_byte, full_stop, last_is, valid_language};
 

@@ -4,10 +4,8 @@
 
 ghost use Rattle.std.specs.Prelude.{◌≡◌, ◌≤◌, [], length, cond};
 ghost use Rattle.text.specs.Choice.{◌and◌, is_empty};
-ghost use Rattle.text.specs.Piece.{canonical, verbatim};
-ghost use Rattle.text.specs.Lines.{cuts, line_text, under};
+ghost use Rattle.text.specs.Lines.{cuts, under};
 ghost use Rattle.text.specs.Put.{Put};
-ghost use Rattle.items.specs.Awareness.{awareness_pieces};
 ghost use Rattle.text.specs.Out.{finished, more};
 ghost use Rattle.items.specs.Parts.{items_of, language_of, make_language};
 ghost use Rattle.remarks.specs.Remarks.{language_lines, remark_lines, remarks, read_remarks};

@@ -3,13 +3,13 @@
 
 #![tactic(auto)]
 
-ghost use Rattle.std.specs.Prelude.{◌≡◌, ◌⊎◌, ◌+◌, ◌-◌, MatchOption, ◌<◌, ◌≤◌, length, take, drop, if◌then◌else◌, nat_le};
+ghost use Rattle.std.specs.Prelude.{◌≡◌, ◌⊎◌, ◌-◌, MatchOption, ◌<◌, ◌≤◌, length, drop, nat_le};
 ghost use Rattle.text.specs.Choice.{all};
 ghost use Rattle.text.specs.Arrays.{is_zero};
 ghost use Rattle.text.specs.Read.{guard, skip, read_word};
 ghost use Rattle.text.specs.Numbers.{read_digits};
 ghost use Rattle.text.specs.Names.{is_letter, is_name, is_plain_byte, in_class, run, past, read_count, is_space};
-ghost use Rattle.text.specs.Code.Held.{Held, Reached, Eight, starts_with, is_got};
+ghost use Rattle.text.specs.Code.Held.{Held, Reached, is_got};
 
 use text::{BLOCK, Class, Found, block_passes, each, past, place};
 

@@ -159,7 +159,7 @@ pub blocks : Blocks
 unfolding ◌and◌ starts_with low_first
 blocks = record { spaces = refl; unfed = refl; starting = refl; whole = refl; bytes-end = refl; eight = record { says = refl; bytes = refl }; numbers = refl }
 
--- what is answered where nothing is found is all zero
+-- what is found and the place behind it; nothing found is a misfit, and its place 0
 pub record Nothing : Type 0 where
   pub found : given (λ (r : Found). r.value) (λ r. r.next) (65 ∷ 66 ∷ 67 ∷ []) (Some (record { value = 7; next = 2 })) ≡ got 7 (67 ∷ [])
   pub none : given (λ (r : Found). r.value) (λ r. r.next) (65 ∷ []) None ≡ misfit

@@ -10,7 +10,7 @@ ghost use Rattle.text.specs.Read.{read_after};
 ghost use Rattle.text.specs.Names.{read_name};
 ghost use Rattle.text.specs.Put.{Put};
 ghost use Rattle.surface.specs.Descriptions.{description_name};
-ghost use Rattle.thirds.specs.Groups.{measure_pieces, read_measure, read_coverage, description_pieces, read_description, third_pieces, read_third, group_pieces, read_group};
+ghost use Rattle.thirds.specs.Groups.{measure_pieces, read_measure, read_coverage, read_description, third_pieces, read_third, group_pieces, read_group};
 ghost use Rattle.thirds.specs.Code.Begin.{beginning};
 ghost use Rattle.thirds.specs.Code.Held.{HeldThree, three, joint_text};
 

@@ -2,7 +2,7 @@
 
 #![tactic(auto)]
 
-ghost use Rattle.std.specs.Prelude.{[], ◌++◌, eqb, take, cond};
+ghost use Rattle.std.specs.Prelude.{◌++◌};
 ghost use Rattle.text.specs.Numbers.{number};
 ghost use Rattle.text.specs.Piece.{canonical, spell, bytes};
 ghost use Rattle.text.specs.Put.{Put};
