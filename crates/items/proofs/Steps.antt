@@ -1,10 +1,12 @@
--- One step of each loop.
-use Rattle.std.specs.Prelude.{ℕ, suc, ◌+◌, ◌-◌, ◌<◌, ◌≤◌, ◌≡◌, refl, List, [], ◌∷◌, true, not, length, take, drop}
-use Rattle.std.proofs.Common.{arith}
+-- One step of each loop, and what a test of the code tells.
+use Rattle.std.specs.Prelude.{ℕ, suc, ◌+◌, ◌-◌, ◌<◌, ◌≤◌, ◌≡◌, ◌↔◌, refl, List, [], ◌∷◌, Bool, true, false, not, IsTrue, length, take, drop}
+use Rattle.std.proofs.Common.{sym, arith}
 use Rattle.text.specs.Choice.{◌and◌, all, same_bytes}
 use Rattle.text.specs.Arrays.{slots, is_zero}
 use Rattle.items.specs.Item.{valid_slot, is_new, slots_fit}
-use Rattle.items.specs.Awareness.{in_order}
+use Rattle.items.specs.Awareness.{in_order, blank_item, is_blank_item}
+use Rattle.items.specs.Laws.Awareness.{blank-item}
+use Rattle.items.specs.Laws.Parts.{blank-item-blank}
 use Rattle.items.specs.declared.Item.{Item}
 
 -- the first of the taxiways that are left, of which k are passed
@@ -35,3 +37,12 @@ pub none-in-order : (is : List Item) → length is ≡ 0 → in_order is ≡ tru
 unfolding in_order
 none-in-order [] h = refl
 none-in-order (i ∷ is) h = absurd (omega arith)
+
+-- the blank item is blank, and no other is
+pub blank-told : (i : Item) (b : Bool) → (IsTrue b ↔ (i ≡ blank_item)) → b ≡ is_blank_item i
+blank-told i true h = let e = h.0 refl in sym (rw e blank-item-blank)
+blank-told i false h = go (is_blank_item i) refl
+  where
+    go : (t : Bool) → is_blank_item i ≡ t → false ≡ t
+    go true e = h.1 (blank-item i e)
+    go false e = refl

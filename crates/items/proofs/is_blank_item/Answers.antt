@@ -1,18 +1,11 @@
-use Rattle.std.specs.Prelude.{◌≡◌, length}
-use Rattle.std.proofs.Common.{arith, rules}
-use Rattle.text.specs.Choice.{◌and◌}
-use Rattle.items.specs.Awareness.{is_blank_item, is_blank}
+use Rattle.std.specs.Prelude.{◌≡◌, ◌↔◌, IsTrue}
+use Rattle.std.proofs.Common.{rules}
+use Rattle.items.specs.declared.Item.{Item}
+use Rattle.items.specs.Awareness.{blank_item}
+use Rattle.items.proofs.Steps.{blank-told}
 use Rattle.items.proofs.is_blank_item.Goals as goal
 
-pub returns-then-zeros_from : goal.returns-then-zeros_from
-unfolding is_blank_item is_blank ◌and◌
-returns-then-zeros_from c =
-    let t : length c.args.i.taxiways ≡ 24 = search rules in
-    let n : length c.args.i.name ≡ 16 = search rules in
-    grind arith
-
-pub returns-else-zeros_from : goal.returns-else-zeros_from
-unfolding is_blank_item is_blank ◌and◌
-returns-else-zeros_from c =
-    let t : length c.args.i.taxiways ≡ 24 = search rules in
-    grind arith
+pub returns : goal.returns
+returns c =
+    let same : IsTrue c.eq.result ↔ ◌≡◌ {A = Item} c.args.i blank_item = search rules in
+    blank-told c.args.i c.eq.result same

@@ -16,7 +16,7 @@ use Rattle.items.specs.declared.Language.{Language}
 use Rattle.items.specs.Parts.{items_of, make_items, holds_items, none_or_language, language_of, make_language, holds_language}
 
 -- items
-blank-item-blank : is_blank_item blank_item ≡ true
+pub blank-item-blank : is_blank_item blank_item ≡ true
 unfolding is_blank_item no_numbers is_blank ◌and◌
 blank-item-blank = refl
 
