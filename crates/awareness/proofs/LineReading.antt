@@ -1,5 +1,5 @@
 -- The awareness line read item by item.
-use Rattle.std.specs.Prelude.{ℕ, zero, suc, ◌+◌, ◌-◌, ◌<◌, ◌≤◌, ◌≡◌, refl, List, [], ◌∷◌, ◌++◌, true, false, Option, None, Some, length, take, drop, set, replicate, get_or}
+use Rattle.std.specs.Prelude.{ℕ, zero, suc, ◌+◌, ◌-◌, ◌<◌, ◌≤◌, ◌≡◌, refl, List, [], ◌∷◌, ◌++◌, true, false, Some, length, take, drop, set, replicate, get_or}
 use Rattle.std.proofs.Common.{sym, ◌∙◌, ap, append_assoc, append-nil, add-one, arith, length-take, drop_of_length-le, drop-cons, length-take-le}
 use lib.Seq.{take-suc-set}
 use Rattle.text.specs.Arrays.{pad}
@@ -9,7 +9,6 @@ use Rattle.text.specs.Code.Held.{Reached}
 use Rattle.text.specs.Laws.Base.{skip-stops}
 use Rattle.text.specs.Laws.Arrays.{pad-length, pad-more}
 use Rattle.items.specs.declared.Item.{Item}
-use Rattle.items.specs.declared.Items.{Items}
 use Rattle.items.specs.ReadItem.{read_item, read_body}
 use Rattle.items.specs.Awareness.{in_order, stands_behind, most_items, blank_item, read_awareness, whole_awareness}
 use Rattle.items.specs.Laws.Order.{order-on, order-off}
@@ -71,11 +70,6 @@ some_left is x m h = let e = append-nil is in rw (e, h)
 
 none_left : (is : List Item) → in_order is ≡ true → whole_with is (got [] []) ≡ got is []
 none_left is h = let e = append-nil is in rw (e, h)
-
--- the items so far, if the line fits
-abbrev pub answered : Items → Option (Unit {0}) → Option Items
-answered read None = None
-answered read (Some u) = Some read
 
 -- the reading so far: `count` items are kept, the last ends at `behind`, and the next would stand at `at`
 pub record SoFar (l : List ℕ) (items : List Item) (count behind at : ℕ) : Type 0 where

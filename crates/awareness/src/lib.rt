@@ -2,7 +2,7 @@
 
 #![tactic(auto)]
 
-ghost use Rattle.std.specs.Prelude.{true, ◌≡◌, ◌*◌, ◌≤◌, length, drop, replicate};
+ghost use Rattle.std.specs.Prelude.{true, ◌≡◌, ◌*◌, ◌≤◌, [], length, drop, replicate};
 ghost use Rattle.std.proofs.lemmas.List.Edits.{sets};
 ghost use Rattle.text.specs.Choice.{all};
 ghost use Rattle.text.specs.Code.Held.{Spanned, Held};
@@ -12,8 +12,9 @@ ghost use Rattle.text.specs.Read.{read_as, read_if, read_gap, read_text};
 ghost use Rattle.items.specs.Awareness.{in_order, stands_behind, whole_awareness};
 ghost use Rattle.items.specs.Item.{is_taxiway, valid_item};
 ghost use Rattle.items.specs.ItemText.{edge_name};
+ghost use Rattle.items.specs.Parts.{make_items};
 ghost use Rattle.items.specs.ReadItem.{sayings, saying, taxi_sayings, taxi_saying, edges, read_length, read_bank, read_detail, read_runway_form, bare_item, read_taxiway, read_some_taxiways, read_taxi_form, is_apron, apron_item, read_apron_form, read_body};
-ghost use Rattle.awareness.specs.Code.Held.{HeldText, HeldDetail, HeldItem, items_answer};
+ghost use Rattle.awareness.specs.Code.Held.{HeldText, HeldDetail, HeldItem, items_answer, answered, ItemsLeft};
 ghost use Rattle.awareness.specs.Code.Named.{in_slots, HeldTaxiways};
 
 use fill::put;
@@ -351,20 +352,26 @@ fn stands_behind(items: &[Item], item: Item) -> bool
     true
 }
 
-// The items that a line is: the first at its start, each other behind any number of spaces. The first misfit leaves none.
-pub fn read_awareness(line: &[u8]) -> Option<Items>
-    ensures { result ≡ items_answer (whole_awareness line.now) }
+// No items.
+fn no_items() -> Items
+    ensures { result ≡ make_items [] }
 {
     // stays: a call, with which the machine clears the array at once; the constant is stored 32 times
     let blank = blank_item();
-    let mut read = Items {
+    Items {
         count: 0,
         items: [blank; 32],
-    };
+    }
+}
+
+// Keeps the items that a line is behind none: the first at its start, each other behind any number of spaces. The first misfit ends it.
+fn items_into(read: &mut Items, line: &[u8]) -> Option<()>
+    requires { read.old ≡ make_items [] }
+    ensures { answered read.new result ≡ items_answer (whole_awareness line.now) }
+{
     // where the last item ends, and where the next would start
     let mut end = 0;
     let mut at = 0;
-    // left with no value: with the items, the array would be copied twice more
     'items: loop {
         if line.len() <= end {
             break 'items Some(());
@@ -385,6 +392,17 @@ pub fn read_awareness(line: &[u8]) -> Option<Items>
         read.count += 1;
         end = stop;
         at = spaces(line, stop);
-    }?;
-    Some(read)
+    }
+}
+
+// The items that a line is, in the array that is lent, since each hand would copy them; none where it is no awareness line.
+pub fn read_awareness(line: &[u8], read: &mut Items) -> Option<()>
+    ensures { ItemsLeft (whole_awareness line.now) read.new result }
+{
+    *read = no_items();
+    let whole = items_into(read, line);
+    if whole.is_none() {
+        *read = no_items();
+    }
+    whole
 }

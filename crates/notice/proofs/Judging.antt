@@ -1,5 +1,5 @@
 -- What is below the front: the rows, the remarks, and whether the lines agree.
-use Rattle.std.specs.Prelude.{ℕ, ◌+◌, ◌-◌, ◌<◌, ◌≤◌, ◌≡◌, refl, List, [], cond, Bool, true, false, Result, Ok, Err, eqb, length, take, drop}
+use Rattle.std.specs.Prelude.{ℕ, ◌+◌, ◌<◌, ◌≤◌, ◌≡◌, refl, List, [], cond, Bool, true, false, Result, Ok, Err, eqb, length, drop}
 use Rattle.std.proofs.Common.{sym, ◌∙◌, ap, arith, length-drop, drop-drop, le-leb}
 use Rattle.std.proofs.lemmas.Bool.{lt-leb}
 use Rattle.text.specs.Choice.{same_bytes}

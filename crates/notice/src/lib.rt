@@ -9,13 +9,15 @@ ghost use Rattle.record.specs.Record.{valid_record};
 ghost use Rattle.notice.specs.Writing.{Wrote, WroteAt};
 ghost use Rattle.notice.specs.Rewriting.{Rewrote};
 ghost use Rattle.notice.specs.Reading.{reading};
-ghost use Rattle.notice.specs.Code.Below.{Opened, DisagreesAt, answer};
+ghost use Rattle.notice.specs.Code.Below.{Opened, DisagreesAt, FillsRecord};
 
 use body::{latest_time, read_rows};
 use fill::has_room;
 use front::read_front;
-use record::{Reading, Record, accepted, mismatch, put_notice, record_of, refused, valid_record};
-use remarks::read_remarks;
+use record::{
+    Reading, Record, accepted, blank_record, mismatch, put_notice, record_of, refused, valid_record,
+};
+use remarks::{no_remarks, read_remarks};
 use sameness::{same_addresses, same_filing, same_items, same_language, same_rows, same_title};
 use text::refusal::{Fault, Refusal};
 use text::{LONGEST, first_line, lines_size, place};
@@ -48,32 +50,39 @@ fn disagreement_place(message: &[u8], refusal: Refusal) -> usize
     }
 }
 
-// The record of a message, or its first fault: 1 first, then line by line, where the first line that does not fit decides; 10, 11, 12 at the end. The
-// parts meet here, so that none is handed on from answer to answer.
-fn read_record(message: &[u8]) -> Result<Record, Fault>
-    ensures { answer result ≡ reading message.now }
+// Fills in the record of a message, or answers its first fault: 1 first, then line by line, where the first line that does not fit decides; 10, 11, 12
+// at the end. The parts meet here, so that none is handed on from answer to answer. A refused message leaves the record as it was.
+fn record_into(record: &mut Record, message: &[u8]) -> Result<(), Fault>
+    ensures { FillsRecord message.now «record».old «record».new result }
 {
     if LONGEST < message.len() {
         return Err(Refusal::TooLong.at(LONGEST));
     }
     let opening = read_front(message)?;
     let below = &message[opening.next..];
-    let block = read_rows(below).map_err(|f| f.refusal.at(opening.next + f.place))?;
+    let block = match read_rows(below) {
+        Ok(block) => block,
+        Err(fault) => return Err(fault.refusal.at(opening.next + fault.place)),
+    };
     let end = opening.next + place(below, block.next);
-    let rest = &message[end..];
-    let remarks = read_remarks(block.closed, rest).map_err(|f| f.refusal.at(end + f.place))?;
+    let mut remarks = no_remarks();
+    if let Err(fault) = read_remarks(block.closed, &message[end..], &mut remarks) {
+        return Err(fault.refusal.at(end + fault.place));
+    }
     if let Err(refusal) = mismatch(opening.front, block.rows) {
         return Err(refusal.at(disagreement_place(message, refusal)));
     }
-    Ok(record_of(opening.front, block.rows, remarks))
+    *record = record_of(opening.front, block.rows, remarks);
+    Ok(())
 }
 
 // Reads a message.
 pub fn read(message: &[u8]) -> Reading
     ensures { result ≡ reading message.now }
 {
-    match read_record(message) {
-        Ok(r) => accepted(r),
+    let mut reading = accepted(blank_record());
+    match record_into(&mut reading.record, message) {
+        Ok(()) => reading,
         Err(fault) => refused(fault.refusal.number(), fault.place),
     }
 }
@@ -112,8 +121,9 @@ pub fn write(r: Record, buffer: &mut [u8]) -> Written
 pub fn rewrite(message: &[u8], buffer: &mut [u8]) -> Written
     ensures { Rewrote message.now buffer.old buffer.new result }
 {
-    match read_record(message) {
-        Ok(r) => write_valid(r, latest_time(r.rows), buffer),
+    let mut record = blank_record();
+    match record_into(&mut record, message) {
+        Ok(()) => write_valid(record, latest_time(record.rows), buffer),
         Err(fault) => Written::from(Err(fault.refusal)),
     }
 }
@@ -137,10 +147,12 @@ fn same_record(a: Record, b: Record) -> bool
 pub fn same(a: &[u8], b: &[u8]) -> bool
     ensures { SaysSame a.now b.now result }
 {
-    let Ok(first) = read_record(a) else {
+    let mut first = blank_record();
+    let Ok(()) = record_into(&mut first, a) else {
         return false;
     };
-    let Ok(second) = read_record(b) else {
+    let mut second = blank_record();
+    let Ok(()) = record_into(&mut second, b) else {
         return false;
     };
     same_record(first, second)

@@ -82,7 +82,8 @@ pub fn accepted(r: Record) -> Reading
     }
 }
 
-fn blank_record() -> Record
+// The record that nothing was read into.
+pub fn blank_record() -> Record
     ensures { result ≡ blank_record }
 {
     record_of(blank_front(), blank_rows(), no_remarks())

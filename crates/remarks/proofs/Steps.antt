@@ -66,6 +66,11 @@ abbrev made : Option (List Item) → Option Items
 made None = None
 made (Some is) = Some (make_items is)
 
+-- the same by whether the awareness line is read, and the array
+abbrev pub above_items : Bool → Items → Option Items
+above_items false i = None
+above_items true i = Some i
+
 -- what is left from here on says what the whole message says below the rows
 pub record SoFar (m : List ℕ) (above : Option Items) (at : ℕ) : Type 0 where
   pub within : at ≤ length m

@@ -14,7 +14,7 @@ use Rattle.items.specs.ReadItem.{bare_item}
 use Rattle.items.specs.Awareness.{read_awareness, whole_awareness}
 use Rattle.items.specs.Language.{last_is, valid_language}
 use Rattle.remarks.specs.Remarks.{Remarks, read_language_line, read_remarks, remarks}
-use Rattle.remarks.specs.Code.Held.{kept, RemarksHeld, ending, language_step, behind_items, items_step, next_step}
+use Rattle.remarks.specs.Code.Held.{kept, RemarksHeld, RemarksLeft, ending, language_step, behind_items, items_step, next_step}
 
 -- one item
 abbrev drifting : List Item
@@ -56,6 +56,7 @@ pub record Answers : Type 0 where
   steps : map (λ above. next_step above (bytes "A.)")) (Some drifting ∷ None ∷ []) ≡ said (bytes "A.") ∷ items_step (bytes "A.)") ∷ []
   -- a refusal at its place
   held : RemarksHeld (bytes "ABC") (refuse 9 (bytes "C")) (Err (record { refusal = WrongLanguage; place = 2 }))
+  left : RemarksLeft (bytes "ABC") (refuse 9 (bytes "C")) (record { items = record { count = 0; items = replicate 32 (bare_item 0) }; language = record { length = 0; bytes = replicate 400 0 }; }) (Err (record { refusal = WrongLanguage; place = 2 }))
 
 pub answers : Answers
 unfolding ◌and◌ is_mark end_size line_size line_step closed all_but_last last_is valid_language whole_awareness read_awareness ending
@@ -74,4 +75,5 @@ answers = record {
   first = refl;
   steps = refl;
   held = record { within = lit≤ tt; says = refl };
+  left = (record { within = lit≤ tt; says = refl }, refl);
 }

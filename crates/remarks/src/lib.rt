@@ -9,7 +9,7 @@ ghost use Rattle.text.specs.Put.{Put};
 ghost use Rattle.text.specs.Out.{finished, more};
 ghost use Rattle.items.specs.Parts.{items_of, language_of, make_language};
 ghost use Rattle.remarks.specs.Remarks.{language_lines, remark_lines, remarks, read_remarks};
-ghost use Rattle.remarks.specs.Code.Held.{kept, RemarksHeld};
+ghost use Rattle.remarks.specs.Code.Held.{kept, RemarksHeld, answered, RemarksLeft};
 
 use awareness::read_awareness;
 use fill::{line_under, put, told_behind};
@@ -79,37 +79,32 @@ pub fn no_remarks() -> Remarks
     }
 }
 
-// Plain language in its array, with zeros behind it.
-fn kept_language(text: &[u8]) -> Language
-    requires { length text.now ≤ 400 }
-    ensures { result ≡ make_language text.now }
+// Keeps plain language, in an array of zeros.
+fn keep_language(kept: &mut Language, text: &[u8])
+    requires blank { kept.old ≡ make_language [] }
+    requires short { length text.now ≤ 400 }
+    ensures { kept.new ≡ make_language text.now }
 {
-    let mut bytes = [0u8; 400];
-    put(&mut bytes, 0, text);
-    Language {
-        length: text.len() as u16,
-        bytes,
-    }
+    put(&mut kept.bytes, 0, text);
+    kept.length = text.len() as u16;
 }
 
-// What stands behind the rows: nothing where `)` closed them, else `m` below the empty line that ended them, line by line: the awareness line, and
-// the plain language unless `)` closed that. The first line that does not fit decides. Where no line follows, both are empty, and that gives 4.
-// A wrong line is told at its first byte, a missing line or `)` at the end, and bytes after the end at the first of them.
-pub fn read_remarks(closed: bool, m: &[u8]) -> Result<Remarks, Fault>
-    ensures { RemarksHeld m.now (read_remarks (cond closed finished (more (cuts m.now)))) result }
+// Reads `m` below the empty line that ended the rows, line by line, in the place of nothing: the awareness line, and the plain language unless `)`
+// closed that. The first line that does not fit decides. Where no line follows, both are empty, and that gives 4. A wrong line is told at its first
+// byte, a missing line or `)` at the end, and bytes after the end at the first of them.
+fn remarks_into(read: &mut Remarks, m: &[u8]) -> Result<(), Fault>
+    requires { read.old ≡ kept (remarks [] []) }
+    ensures { RemarksHeld m.now (read_remarks (more (cuts m.now))) (answered read.new result) }
 {
-    if closed {
-        return Ok(no_remarks());
-    }
-    // the items, once the awareness line is read: plain language comes next
-    let mut above: Option<Items> = None;
+    // whether the awareness line is read: plain language comes next
+    let mut below = false;
     let mut at = 0;
     'lines: loop {
         let first = first_line(&m[at..]);
         let line = &m[at..at + first.size];
         let text = line_text(line);
         let next = at + first.next;
-        if let Some(items) = above {
+        if below {
             if !is_closed(line) {
                 break 'lines Err(Refusal::Outline.at(m.len()));
             }
@@ -119,27 +114,38 @@ pub fn read_remarks(closed: bool, m: &[u8]) -> Result<Remarks, Fault>
             if next < m.len() {
                 break 'lines Err(Refusal::Outline.at(next));
             }
-            break 'lines Ok(Remarks {
-                items,
-                language: kept_language(text),
-            });
+            keep_language(&mut read.language, text);
+            break 'lines Ok(());
         }
-        let Some(items) = read_awareness(text) else {
+        let Some(()) = read_awareness(text, &mut read.items) else {
             break 'lines Err(Refusal::WrongItems.at(at));
         };
         if is_closed(line) {
-            if items.count == 0 {
+            if read.items.count == 0 {
                 break 'lines Err(Refusal::WrongItems.at(at));
             }
             if next < m.len() {
                 break 'lines Err(Refusal::Outline.at(next));
             }
-            break 'lines Ok(Remarks {
-                items,
-                language: no_language(),
-            });
+            break 'lines Ok(());
         }
-        above = Some(items);
+        below = true;
         at = next;
     }
+}
+
+// What stands behind the rows, in the structs that are lent, since each hand would copy them: nothing where `)` closed the rows, or where a line is
+// refused.
+pub fn read_remarks(closed: bool, m: &[u8], read: &mut Remarks) -> Result<(), Fault>
+    ensures { RemarksLeft m.now (read_remarks (cond closed finished (more (cuts m.now)))) read.new result }
+{
+    *read = no_remarks();
+    if closed {
+        return Ok(());
+    }
+    let answer = remarks_into(read, m);
+    if answer.is_err() {
+        *read = no_remarks();
+    }
+    answer
 }

@@ -1,5 +1,5 @@
 -- What the code's answers say of the readers, and how the items of a line are kept.
-use Rattle.std.specs.Prelude.{ℕ, List, Option, None, Some}
+use Rattle.std.specs.Prelude.{ℕ, ◌≡◌, List, [], Option, None, Some, MatchOption}
 use Rattle.text.specs.Code.Held.{Told}
 use Rattle.text.specs.Read.{Got, misfit, got}
 use Rattle.items.specs.Parts.{make_items}
@@ -24,3 +24,12 @@ HeldItem = Told (λ f. f.item) (λ f. f.next)
 abbrev pub items_answer : Got (List Item) → Option Items
 items_answer misfit = None
 items_answer (got is r) = Some (make_items is)
+
+-- what an answer says of the array that it was lent: its items, or nothing where it is None
+abbrev pub answered : Items → Option (Unit {0}) → Option Items
+answered i None = None
+answered i (Some u) = Some i
+
+-- the reading g of the awareness line is in the array i, and the answer r tells whether it fits; none are there where it does not
+abbrev pub ItemsLeft : Got (List Item) → Items → Option (Unit {0}) → Type 0
+ItemsLeft g i r = (answered i r ≡ items_answer g) × MatchOption r (i ≡ make_items []) (λ _. Unit {0})

@@ -11,4 +11,4 @@ pub returns-in-Ok : goal.returns-in-Ok
 returns-in-Ok c = rewrote-accepted c.args.message.now _ c.in-Ok.ensures refl (wrote-latest _ _ c.latest_time.ensures c.write_valid.ensures)
 
 pub returns-in-Err : goal.returns-in-Err
-returns-in-Err c = rw c.from.ensures (rewrote-refused c.args.message.now _ c.in-Err.ensures (search rules))
+returns-in-Err c = rw c.from.ensures (rewrote-refused c.args.message.now _ c.in-Err.ensures.0 (search rules))

@@ -1,5 +1,5 @@
 -- What the code's answers say of reading below the rows.
-use Rattle.std.specs.Prelude.{ℕ, ◌≡◌, List, [], cond, Bool, eqb, length, take, drop, Option, None, Some, Result, MatchResult}
+use Rattle.std.specs.Prelude.{ℕ, ◌≡◌, List, [], cond, Bool, eqb, length, take, drop, Option, None, Some, Result, Ok, Err, MatchResult}
 use Rattle.text.specs.Choice.{is_empty}
 use Rattle.text.specs.Lines.{line_size, line_step, closed, line_text}
 use Rattle.text.specs.Read.{Got, misfit, got}
@@ -27,6 +27,15 @@ pub record RemarksTaken (o : Out Remarks) (r : Code.Remarks) : Type 0 where
 -- the answer r is the reading o of what stands at the end of m
 abbrev pub RemarksHeld : List ℕ → Out Remarks → Result Code.Remarks Fault → Type 0
 RemarksHeld m o r = MatchResult r (RemarksTaken o) (Refused m o)
+
+-- what an answer says of the structs that it was lent: what they hold, or the fault
+abbrev pub answered : Code.Remarks → Result (Unit {0}) Fault → Result Code.Remarks Fault
+answered x (Ok u) = Ok x
+answered x (Err f) = Err f
+
+-- the reading o of what stands at the end of m is in the structs x, and the answer r tells whether it fits; nothing is there where it does not
+abbrev pub RemarksLeft : List ℕ → Out Remarks → Code.Remarks → Result (Unit {0}) Fault → Type 0
+RemarksLeft m o x r = RemarksHeld m o (answered x r) × MatchResult r (λ _. Unit {0}) (λ _. x ≡ kept (remarks [] []))
 
 -- behind the line that `)` closes: "bytes after the end"
 unfoldable pub ending : List ℕ → Remarks → Out Remarks

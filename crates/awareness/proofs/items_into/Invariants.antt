@@ -2,7 +2,7 @@
 use Rattle.std.specs.Prelude.{◌-◌}
 use Rattle.items.specs.Awareness.{most_items}
 use Rattle.awareness.proofs.LineReading.{SoFar}
-use Rattle.awareness.proofs.read_awareness.Given as goal
+use Rattle.awareness.proofs.items_into.Given as goal
 
 abbrev pub invariant-items : goal.invariant-items
 invariant-items l = SoFar l.line l.read.items l.read.count l.end l.at
