@@ -8,7 +8,8 @@ use lib.ListN.{length, drop, get_or, take, set, take-append-drop}
 use lib.Seq.{length-sets, take-suc, length-take-le, sets, set_out}
 use Rattle.text.specs.Piece.{byte, canonical}
 use Rattle.text.specs.Numbers.{digits}
-use Rattle.text.specs.Laws.Put.{sets-join, sets_last, sets-out, canonical-append}
+use Rattle.text.specs.Put.{told}
+use Rattle.text.specs.Laws.Put.{told-near, sets-join, sets_last, sets-out, canonical-append}
 use Rattle.text.specs.Laws.Sizes.{size, digits-size}
 
 -- one byte more of a text that is being put
@@ -34,6 +35,10 @@ no-places x = refl
 pub digits_long : (n x : ℕ) → length (canonical (digits n x)) ≡ n
 unfolding size
 digits_long n x = digits-size n x
+
+-- a buffer of one byte tells how long a text is
+pub byte_tells : (n : ℕ) → n ≤ 65536 → told (0 ∷ []) n ≡ n
+byte_tells n h = told-near (0 ∷ []) (omega arith)
 
 -- the last digit is stored first
 module _ (x : List ℕ) (a k y : ℕ) where

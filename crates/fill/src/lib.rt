@@ -3,7 +3,7 @@
 
 #![tactic(auto)]
 
-ghost use Rattle.std.specs.Prelude.{◌≡◌, ℕ, ◌+◌, ◌%◌, ◌<◌, ◌≤◌, leb, List, ◌∷◌, length};
+ghost use Rattle.std.specs.Prelude.{◌≡◌, ℕ, ◌+◌, ◌%◌, ◌<◌, ◌≤◌, ◌||◌, leb, List, [], ◌∷◌, length};
 ghost use Rattle.std.specs.Fn.{FnOnceReturnsAtMut};
 ghost use Rattle.std.proofs.lemmas.List.Edits.{sets};
 ghost use Rattle.text.specs.Piece.{canonical};
@@ -119,19 +119,22 @@ pub fn line_under<F: FnOnce(&mut [u8]) -> usize>(out: &mut [u8], at: usize, writ
     in_rest(out, line, write)
 }
 
-// How many bytes the text of a writer has.
+// How many bytes the text of a writer has, as far as a buffer of one byte tells.
 fn text_size<F: FnOnce(&mut [u8]) -> usize>(write: F) -> usize
     requires { F.IsAlwaysCallable write }
-    ensures { (t : List ℕ) → Writes (FnOnceReturnsAtMut F.FnOnce write) t → length t ≤ 65536 → result ≡ length t }
+    ensures { (t : List ℕ) → Writes (FnOnceReturnsAtMut F.FnOnce write) t → result ≡ told (0 ∷ []) (length t) }
 {
     // places are told past the end of any buffer, so that one byte is enough to measure in
     write(&mut [0; 1])
 }
 
-// The text of a writer fits into so many bytes: the longest that it can be is known, and only a shorter room is measured against the text.
+// The text of a writer fits into so many bytes: the longest that it can be is known, and only a shorter room is measured against the text. Of a
+// text that is longer all the same, or too long to be told, the answer is what these two tests say.
+#[tactic(auto, using(crate::proofs::Steps::byte_tells))]
 pub fn has_room<F: FnOnce(&mut [u8]) -> usize>(room: usize, longest: usize, write: F) -> bool
     requires { F.IsAlwaysCallable write }
-    ensures { (t : List ℕ) → Writes (FnOnceReturnsAtMut F.FnOnce write) t → length t ≤ longest → longest ≤ 65536 → result ≡ leb (length t) room }
+    ensures fits { (t : List ℕ) → Writes (FnOnceReturnsAtMut F.FnOnce write) t → length t ≤ longest → longest ≤ 65536 → result ≡ leb (length t) room }
+    ensures always { (t : List ℕ) → Writes (FnOnceReturnsAtMut F.FnOnce write) t → result ≡ (leb longest room || leb (told (0 ∷ []) (length t)) room) }
 {
     longest <= room || text_size(write) <= room
 }

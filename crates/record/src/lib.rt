@@ -16,6 +16,7 @@ use front::{Front, blank_front, put_front};
 use frontlines::{Addresses, Filing, Title, valid_addresses, valid_filing, valid_title};
 use items::{Items, Language, holds_items, holds_language};
 use remarks::{Remarks, no_remarks, put_remarks};
+use scan::same_bytes;
 use text::refusal::Refusal;
 
 // What a message says, part by part; the heading time is the latest row time and is not stored.
@@ -49,7 +50,7 @@ pub fn mismatch(front: Front, rows: Rows) -> Result<(), Refusal>
     if u32::from(front.title.serial) != front.serial {
         return Err(Refusal::SerialsDiffer);
     }
-    if front.title.aerodrome != front.aerodrome {
+    if !same_bytes(&front.title.aerodrome, &front.aerodrome) {
         return Err(Refusal::AerodromesDiffer);
     }
     if front.time != latest_time(rows) {

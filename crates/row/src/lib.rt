@@ -8,7 +8,7 @@ ghost use Rattle.row.specs.Agreement.{disagreements, agreement};
 
 use runway::{real_time, valid_runway};
 use surface::description::DRY;
-use surface::{BLANK_THIRD, Third, agrees, valid_third};
+use surface::{BLANK_THIRD, Third, agrees, is_blank_third, valid_third};
 use text::refusal::Refusal;
 
 // In every field 0 stands for NR and for what is missing.
@@ -54,7 +54,11 @@ pub fn blank_row() -> Row
 pub fn is_blank_row(r: Row) -> bool
     ensures { result ≡ is_blank_row r }
 {
-    r == blank_row()
+    r.time == 0
+        && r.number == 0
+        && r.side == 0
+        && r.width == 0
+        && r.thirds.iter().all(|&t| is_blank_third(t))
 }
 
 fn is_bare(t: Third) -> bool

@@ -4,7 +4,7 @@
 #![tactic(auto)]
 
 ghost use Rattle.std.specs.Prelude.{◌≡◌, ◌⊎◌, ◌-◌, MatchOption, ◌<◌, ◌≤◌, length, drop, nat_le};
-ghost use Rattle.text.specs.Choice.{all};
+ghost use Rattle.text.specs.Choice.{all, same_bytes};
 ghost use Rattle.text.specs.Arrays.{is_zero};
 ghost use Rattle.text.specs.Read.{guard, skip, read_word};
 ghost use Rattle.text.specs.Numbers.{read_digits};
@@ -178,4 +178,11 @@ pub fn zeros_from(s: &[u8], i: usize) -> bool
     ensures { result ≡ all is_zero (drop i s.now) }
 {
     each(&s[place(s, i)..], |b| b == 0)
+}
+
+// Whether the bytes of both are the same.
+pub fn same_bytes(a: &[u8], b: &[u8]) -> bool
+    ensures { result ≡ same_bytes a.now b.now }
+{
+    a == b
 }

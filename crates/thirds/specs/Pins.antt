@@ -99,7 +99,7 @@ readings = record {
   depth = refl;
   groups = (refl, refl, refl, refl);
   parted = refl;
-  told = record { within = lit≤ tt; says = refl };
+  told = record { told = record { within = lit≤ tt; says = refl }; no_more = refl };
   array = refl;
   shown = refl;
 }

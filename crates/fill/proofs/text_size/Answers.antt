@@ -1,8 +1,8 @@
-use Rattle.std.proofs.Common.{refl}
-use Rattle.text.specs.Laws.Put.{measured}
+use Rattle.std.proofs.Common.{refl, ◌∙◌, ap, zero-add}
+use Rattle.text.specs.Put.{told}
 use Rattle.fill.proofs.text_size.Goals as goal
 
 pub returns : goal.returns
-returns g c = λ t h k.
+returns g c = λ t h.
     let w = h _ _ c.write.result (record { shown = _; shows = refl; left = _; met = c.write.ensures; leaves = refl }) in
-    measured w k
+    w.place ∙ ap (told _) (zero-add _)

@@ -1,14 +1,17 @@
 -- Items in order, judged one by one against those before.
-use Rattle.std.specs.Prelude.{◌≡◌, Bool}
+use Rattle.std.specs.Prelude.{ℕ, ◌+◌, ◌<◌, ◌≤◌, ◌≡◌, Bool, length, take, drop, get_or}
 use Rattle.std.proofs.Math.Path.{refl}
+use Rattle.std.proofs.Common.{◌∙◌, ap, get_or-take, arith}
 use mathlib.Core.List.{List, [], ◌∷◌, ◌++◌}
 use Rattle.std.proofs.Math.Bool.{true, false}
+use Rattle.std.proofs.Math.ListN.{length-take}
 use Rattle.text.specs.Choice.{◌and◌, all}
 use Rattle.text.specs.Laws.Base.{and-1, and-2, and_i, and_none, true-false}
 use Rattle.text.specs.Laws.Lines.{all_append}
+use Rattle.text.specs.Laws.Arrays.{all_end, all-on, all-off}
 use Rattle.items.specs.declared.Item.{Item}
 use Rattle.items.specs.Item.{valid_item}
-use Rattle.items.specs.Awareness.{may_follow, may_precede, stands_behind, in_order, sound_items}
+use Rattle.items.specs.Awareness.{may_follow, may_precede, stands_behind, in_order, sound_items, blank_item}
 
 -- one that fails behind others
 one-fails : {A : Type 0} (p : A → Bool) (xs ys : List A) (i : A) → p i ≡ false → all p (xs ++ (i ∷ ys)) ≡ false
@@ -43,3 +46,17 @@ module _ (i : Item) where
   pub sound-misplaced : (xs ys : List Item) → stands_behind xs i ≡ false → sound_items (xs ++ (i ∷ ys)) ≡ false
   unfolding sound_items
   sound-misplaced xs ys s = and_none (all valid_item (xs ++ (i ∷ ys))) (order-off xs ys s)
+
+-- whether one may stand behind those of the first n from the k-th on
+module _ (is : List Item) (n : ℕ) (i : Item) (k : ℕ) where
+  pub behind-all : n ≤ k → stands_behind (drop k (take n is)) i ≡ true
+  behind-all h = all_end (may_precede i) blank_item (take n is) k (rw length-take (omega arith))
+
+  module _ (z : Item) (h : k < n) (w : k < length is) where
+    pub behind-one : may_follow (get_or is k z) i ≡ true → stands_behind (drop k (take n is)) i ≡ stands_behind (drop (k + 1) (take n is)) i
+    unfolding may_precede
+    behind-one e = all-on (may_precede i) z (take n is) k (rw length-take (omega arith)) (ap (may_precede i) (get_or-take n is k z h) ∙ e)
+
+    pub not_behind : may_follow (get_or is k z) i ≡ false → stands_behind (drop k (take n is)) i ≡ false
+    unfolding may_precede
+    not_behind e = all-off (may_precede i) z (take n is) k (rw length-take (omega arith)) (ap (may_precede i) (get_or-take n is k z h) ∙ e)

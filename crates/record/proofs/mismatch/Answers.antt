@@ -1,5 +1,4 @@
 use Rattle.std.proofs.Common.{arith}
-use Rattle.text.specs.Laws.Iter.{same-pointwise}
 use Rattle.record.specs.Code.Fitted.{mismatch}
 use Rattle.record.proofs.mismatch.Goals as goal
 
@@ -7,14 +6,14 @@ pub returns-then-from-front : goal.returns-then-from-front
 unfolding mismatch
 returns-then-from-front c = grind arith
 
-pub returns-then-ne : goal.returns-then-ne
+pub returns-then-not-same_bytes : goal.returns-then-not-same_bytes
 unfolding mismatch
-returns-then-ne c = grind (arith, same-pointwise)
+returns-then-not-same_bytes c = grind arith
 
 pub returns-then-front-latest_time : goal.returns-then-front-latest_time
 unfolding mismatch
-returns-then-front-latest_time c = grind (arith, same-pointwise)
+returns-then-front-latest_time c = grind arith
 
 pub returns : goal.returns
 unfolding mismatch
-returns c = grind (arith, same-pointwise)
+returns c = grind arith

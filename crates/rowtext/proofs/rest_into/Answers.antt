@@ -17,7 +17,7 @@ returns-in-Some c = let f = c.in-Some.ensures in rw (full-took c.args.row.now c.
 pub with_rest-short-requires : goal.with_rest-short-requires
 unfolding highest
 with_rest-short-requires c =
-    ((lit≤ tt, lit≤ tt, lit≤ tt), (lit≤ tt, lit≤ tt, lit≤ tt), shown Descriptions descriptions-laws _ c.in-Some-read_group.ensures.says)
+    ((lit≤ tt, lit≤ tt, lit≤ tt), (lit≤ tt, lit≤ tt, lit≤ tt), shown Descriptions descriptions-laws _ c.in-Some-read_group.ensures.told.says)
 
 pub returns-then-not-is_short : goal.returns-then-not-is_short
 unfolding fill_group
@@ -26,7 +26,7 @@ returns-then-not-is_short c =
     let w = c.width-w in
     let e = drop_of_length-le m c.if-s-w.true in
     let same = c.in_default.ensures in
-    let is = short-filled c.args.row.now c.with_rest-short.result m c.in-Some-read_group.ensures.says (w.ensures.says ∙ ap (λ (k : List ℕ). got w.result.value k) e)
+    let is = short-filled c.args.row.now c.with_rest-short.result m c.in-Some-read_group.ensures.told.says (w.ensures.says ∙ ap (λ (k : List ℕ). got w.result.value k) e)
     (rw same at c.with_rest-short.ensures) in
     (faulted c.fault.ensures (is ∙ rw (sym c.is_short.ensures ∙ c.if-not-is_short.true)), same)
 
@@ -36,7 +36,7 @@ returns-then-s-w c =
     let m = c.args.s.now in
     let w = c.width-w in
     let e = drop_of_length-le m c.if-s-w.true in
-    let is = short-filled c.args.row.now c.with_rest-short.result m c.in-Some-read_group.ensures.says (w.ensures.says ∙ ap (λ (k : List ℕ). got w.result.value k) e)
+    let is = short-filled c.args.row.now c.with_rest-short.result m c.in-Some-read_group.ensures.told.says (w.ensures.says ∙ ap (λ (k : List ℕ). got w.result.value k) e)
     (rw c.in_default.ensures at c.with_rest-short.ensures) in
     (w.ensures.within, is ∙ rw (sym c.is_short.ensures ∙ c.if-not-is_short.false, e))
 
@@ -45,7 +45,7 @@ unfolding fill_group
 returns c =
     let m = c.args.s.now in
     let off : short m ≡ false = elim c.match-read_group.branch [
-      | in-Some-read_group+else-s-w b ↦ short-more m b.in-Some-read_group.ensures.says b.width-w.ensures.says (left_over m b.width-w.result.next b.if-s-w.false)
-      | in_default-read_group b ↦ short_none m b.in_default-read_group.ensures.says
+      | in-Some-read_group+else-s-w b ↦ short-more m b.in-Some-read_group.ensures.told.says b.width-w.ensures.says (left_over m b.width-w.result.next b.if-s-w.false)
+      | in_default-read_group b ↦ short_none m b.in_default-read_group.ensures.told.says
     ] in
     rw off (rw c.in_default.ensures at c.full_fault.ensures)

@@ -9,7 +9,8 @@ pub returns-in_err-found : goal.returns-in_err-found
 returns-in_err-found c =
     let l = c.loop-k in
     let f = c.in_err-found.ensures in
-    rw c.from_residual.ensures (record { within = f.within; says = sym l.invariant.2 ∙ rw (from_step c.args.group l.k l.numbers (drop l.next c.args.s.now) c.loop-k-test.true, f.says) })
+    let is = sym l.invariant.2 ∙ rw (from_step c.args.group l.k l.numbers (drop l.next c.args.s.now) c.loop-k-test.true, f.says) in
+    rw c.from_residual.ensures (record { told = record { within = f.within; says = is }; no_more = tt })
 
 pub loop-k-preserved : goal.loop-k-preserved
 loop-k-preserved c =
@@ -20,7 +21,5 @@ loop-k-preserved c =
 pub returns : goal.returns
 returns c =
     let l = c.loop-k in
-    record {
-      within = l.invariant.1 (omega arith);
-      says = sym l.invariant.2 ∙ from_end c.args.group l.k l.numbers (drop l.next c.args.s.now) c.loop-k-test.false;
-    }
+    let is = sym l.invariant.2 ∙ from_end c.args.group l.k l.numbers (drop l.next c.args.s.now) c.loop-k-test.false in
+    record { told = record { within = l.invariant.1 (omega arith); says = is }; no_more = l.invariant.0 }

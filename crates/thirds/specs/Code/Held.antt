@@ -1,5 +1,5 @@
 -- What the code's answers say of the readers.
-use Rattle.std.specs.Prelude.{ℕ, List, Option, slice_index, cond, eqb}
+use Rattle.std.specs.Prelude.{ℕ, ◌≡◌, List, Option, IfSome, length, slice_index, cond, eqb}
 use Rattle.text.specs.Piece.{bytes}
 use Rattle.text.specs.Read.{Got}
 use Rattle.text.specs.Code.Held.{Told}
@@ -10,9 +10,10 @@ use Rattle.thirds.specs.declared.Trio.{Trio}
 abbrev pub three : List ℕ → Three
 three ns = (slice_index ns 0, slice_index ns 1, slice_index ns 2)
 
--- the answer r is the reading g of three numbers in m
-abbrev pub HeldThree : List ℕ → Got Three → Option Trio → Type 0
-HeldThree = Told (λ t. three t.numbers) (λ t. t.next)
+-- the answer r is the reading g of three numbers in m: they alone stand in its array
+pub record HeldThree (m : List ℕ) (g : Got Three) (r : Option Trio) : Type 0 where
+  pub told : Told (λ t. three t.numbers) (λ t. t.next) m g r
+  pub no_more : IfSome r (λ t. length t.numbers ≡ 3)
 
 -- what parts a third of a group from what stands before it: a gap the first, `/` each other
 abbrev pub joint_text : ℕ → List ℕ
