@@ -1,13 +1,12 @@
 -- The definitions say of the parts of a record what `==` answers.
-use Rattle.std.specs.Prelude.{ℕ, ◌≡◌, List, Bool, eqb, nat_eq, ◌&&◌}
-use Rattle.std.proofs.Common.{sym, ◌∙◌, arith}
+use Rattle.std.specs.Prelude.{ℕ, ◌≡◌, refl, List, [], ◌∷◌, Bool, true, false, eqb, nat_eq, ◌&&◌, length}
+use Rattle.std.specs.List.{list_all, zip}
+use Rattle.std.proofs.Common.{sym, ◌∙◌, ap, arith, eqb-true, length-take}
 use Rattle.std.specs.Cmp.Lexicographic.{pointwise}
 use Rattle.text.specs.Choice.{◌and◌, same_all, same_bytes}
 use Rattle.text.specs.Laws.Iter.{and-is, same-pointwise}
 use Rattle.surface.specs.declared.Third.{Third}
 use Rattle.surface.specs.contracts.ThirdPartialEq.TheImpl as thirds
-use Rattle.row.specs.declared.Row.{Row}
-use Rattle.row.specs.contracts.RowPartialEq.TheImpl as rows
 use Rattle.frontlines.specs.declared.Addresses.{Addresses}
 use Rattle.frontlines.specs.contracts.AddressesPartialEq.TheImpl as addresses
 use Rattle.frontlines.specs.declared.Filing.{Filing}
@@ -49,16 +48,23 @@ third_equal : (a b : Third) → same_third a b ≡ thirds.ghosts.eq a b
 unfolding same_third ◌and◌
 third_equal a b = grind arith
 
-thirds_equal : (a b : List Third) → same_all same_third a b ≡ pointwise thirds.ghosts.eq a b
+pub thirds_equal : (a b : List Third) → same_all same_third a b ≡ pointwise thirds.ghosts.eq a b
 thirds_equal = listed same_third thirds.ghosts.eq third_equal
 
-row_equal : (a b : Row) → same_row a b ≡ rows.ghosts.eq a b
-unfolding same_row ◌and◌
-row_equal a b = grind (arith, thirds_equal)
+-- the library's test of pairs, of two lists as long
+zipped : {A : Type 0} (F : A → A → Bool) (xs ys : List A) → length xs ≡ length ys → same_all F xs ys ≡ list_all (λ p. F p.0 p.1) (zip xs ys)
+zipped F [] [] e = refl
+zipped F [] (y ∷ ys) e = absurd (omega arith)
+zipped F (x ∷ xs) [] e = absurd (omega arith)
+zipped F (x ∷ xs) (y ∷ ys) e = ap (λ b. F x y and b) (zipped F xs ys (omega arith)) ∙ sym (and-is _ _)
 
-pub rows_equal : (a b : Rows) → same_rows a b ≡ (eqb a.count b.count && pointwise rows.ghosts.eq (rows_of a) (rows_of b))
-unfolding same_rows
-rows_equal a b = rw (listed same_row rows.ghosts.eq row_equal (rows_of a) (rows_of b)) (sym (and-is _ _))
+pub rows_equal : (a b : Rows) → length a.rows ≡ length b.rows → same_rows a b ≡ (eqb a.count b.count && list_all (λ p. same_row p.0 p.1) (zip (rows_of a) (rows_of b)))
+unfolding same_rows ◌and◌
+rows_equal a b e = go (eqb a.count b.count) refl
+  where
+    go : (t : Bool) → eqb a.count b.count ≡ t → (t and same_all same_row (rows_of a) (rows_of b)) ≡ (t && list_all (λ p. same_row p.0 p.1) (zip (rows_of a) (rows_of b)))
+    go true h = let n = eqb-true a.count b.count h in zipped same_row (rows_of a) (rows_of b) (rw (length-take, length-take, n, e) refl)
+    go false h = refl
 
 -- items and plain language
 item_equal : (a b : Item) → same_item a b ≡ items.ghosts.eq a b

@@ -3,11 +3,13 @@
 #![tactic(auto, using(crate::proofs::Equal::equal))]
 
 ghost use Rattle.std.specs.Prelude.{◌≡◌};
-ghost use Rattle.sameness.specs.Same.{same_addresses, same_filing, same_title, same_rows, same_items, same_language};
+ghost use Rattle.std.specs.List.{list_all, zip};
+ghost use Rattle.sameness.specs.Same.{same_addresses, same_filing, same_title, same_row, same_rows, same_items, same_language};
 
 use body::Rows;
 use frontlines::{Addresses, Filing, Title};
 use items::{Items, Language};
+use row::Row;
 
 // Line 1: what stands past the count is compared too, so that the same means equal.
 pub fn same_addresses(a: Addresses, b: Addresses) -> bool
@@ -30,11 +32,26 @@ pub fn same_title(a: Title, b: Title) -> bool
     a == b
 }
 
+// A row of a runway.
+#[tactic(auto, using(text::specs::Laws::Tests::and_is, crate::proofs::Equal::thirds_equal), unfolding(crate::specs::Same::same_row))]
+fn same_row(x: Row, y: Row) -> bool
+    ensures { result ≡ same_row x y }
+{
+    x == y
+}
+
+// One by one, as far as both go.
+fn all_same(a: &[Row], b: &[Row]) -> bool
+    ensures { result ≡ list_all (λ p. same_row p.0 p.1) (zip a.now b.now) }
+{
+    a.iter().zip(b).all(|(&x, &y)| same_row(x, y))
+}
+
 // As many as the count says: what stands past it is blank in every record that is read.
 pub fn same_rows(a: Rows, b: Rows) -> bool
     ensures { result ≡ same_rows a b }
 {
-    a.count == b.count && a.shown() == b.shown()
+    a.count == b.count && all_same(a.shown(), b.shown())
 }
 
 // As many as the count says, as with the rows.

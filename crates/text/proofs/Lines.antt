@@ -136,3 +136,5 @@ pub closed_none : (l : List ℕ) → length l ≡ 0 → closed l ≡ false
 unfolding closed
 closed_none [] h = refl
 closed_none (x ∷ l) h = absurd (omega arith)
+
+pub ruleset closing = (closed-last, closed_none)
