@@ -42,6 +42,8 @@ pub returns : goal.returns
 returns c =
     let m = c.args.message.now in
     let r = c.in_ok-opening.opening in
-    rw c.record_of.ensures
-    (lines-agree m c.if-message-gt-LONGEST.false c.in_ok-opening.ensures (part-all r.next m) c.in-Ok.ensures c.place.ensures (part-all (r.next + c.place.result) m)
-    c.in_default.ensures.0 c.in_default-mismatch.ensures)
+    rw c.record_of.ensures (
+      lines-agree m c.if-message-gt-LONGEST.false c.in_ok-opening.ensures (part-all r.next m) c.in-Ok.ensures c.place.ensures (part-all (r.next + c.place.result) m)
+          c.in_default.ensures.0 c.in_default-mismatch.ensures,
+      tt,
+    )

@@ -1,5 +1,5 @@
 -- What is read below the front, and how the code answers it.
-use Rattle.std.specs.Prelude.{ℕ, ◌≡◌, List, [], cond, eqb, Result, MatchResult}
+use Rattle.std.specs.Prelude.{ℕ, ◌≡◌, List, [], cond, eqb, Result, Ok, Err, MatchResult}
 use Rattle.text.specs.Lines.{Cut, onward, cuts}
 use Rattle.text.specs.Out.{Out, taken, place, next}
 use Rattle.text.specs.Refusals.{number, serials_differ, aerodromes_differ}
@@ -10,6 +10,7 @@ use Rattle.remarks.specs.Remarks.{read_remarks}
 use Rattle.front.specs.Places.{time_on, serial_on}
 use Rattle.front.specs.Code.Front.{heading_of, front_count, Opening, unopened, fill_lines}
 use Rattle.record.specs.declared.Record.{Record}
+use Rattle.record.specs.declared.Reading.{Reading}
 use Rattle.record.specs.Record.{make_record}
 use Rattle.record.specs.Answer.{accepted, refused}
 use Rattle.notice.specs.Reading.{agreeing, reading}
@@ -37,6 +38,16 @@ disagree_on n o = cond (eqb n serials_differ) (serial_on o.fourth) (cond (eqb n 
 abbrev pub DisagreesAt : List ℕ → Refusal → ℕ → Type 0
 DisagreesAt m n r = (o : Opened m) → r ≡ place m (disagree_on (number n) o.opening)
 
--- the answer r to a message m whose record is filled in: it is what was read, or the message is refused by this fault and the record stays as it was
+-- the answer to a message whose record was read, or refused by this fault
+abbrev pub answer : Result Record Fault → Reading
+answer (Ok r) = accepted r
+answer (Err f) = refused (number f.refusal) f.place
+
+-- what an answer says of the record that it was lent: what it holds, or the fault
+abbrev pub answered : Record → Result (Unit {0}) Fault → Result Record Fault
+answered r (Ok u) = Ok r
+answered r (Err f) = Err f
+
+-- the record of the message m is filled in, and the answer r tells whether it was read; where it was refused, the record is as it was
 abbrev pub FillsRecord : List ℕ → Record → Record → Result (Unit {0}) Fault → Type 0
-FillsRecord m old new r = MatchResult r (λ _. accepted new ≡ reading m) (λ f. (refused (number f.refusal) f.place ≡ reading m) × (new ≡ old))
+FillsRecord m old new r = (answer (answered new r) ≡ reading m) × MatchResult r (λ _. Unit {0}) (λ _. new ≡ old)
