@@ -364,7 +364,8 @@ fn no_items() -> Items
     }
 }
 
-// Keeps the items that a line is behind none: the first at its start, each other behind any number of spaces. The first misfit ends it.
+// Reads the items that a line is into an array that holds none: the first at its start, each other behind any number of spaces. The first misfit ends
+// it.
 fn items_into(read: &mut Items, line: &[u8]) -> Option<()>
     requires { read.old ≡ make_items [] }
     ensures { answered read.new result ≡ items_answer (whole_awareness line.now) }

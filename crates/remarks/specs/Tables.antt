@@ -56,7 +56,7 @@ pub record Answers : Type 0 where
   steps : map (λ above. next_step above (bytes "A.)")) (Some drifting ∷ None ∷ []) ≡ said (bytes "A.") ∷ items_step (bytes "A.)") ∷ []
   -- a refusal at its place
   held : RemarksHeld (bytes "ABC") (refuse 9 (bytes "C")) (Err (record { refusal = WrongLanguage; place = 2 }))
-  left : RemarksLeft (bytes "ABC") (refuse 9 (bytes "C")) (record { items = record { count = 0; items = replicate 32 (bare_item 0) }; language = record { length = 0; bytes = replicate 400 0 } }) (Err (record { refusal = WrongLanguage; place = 2 }))
+  left : RemarksLeft (bytes "ABC") (refuse 9 (bytes "C")) (kept (remarks [] [])) (Err (record { refusal = WrongLanguage; place = 2 }))
 
 pub answers : Answers
 unfolding ◌and◌ is_mark end_size line_size line_step closed all_but_last last_is valid_language whole_awareness read_awareness ending

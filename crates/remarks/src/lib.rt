@@ -89,9 +89,9 @@ fn keep_language(kept: &mut Language, text: &[u8])
     kept.length = text.len() as u16;
 }
 
-// Reads `m` below the empty line that ended the rows, line by line, in the place of nothing: the awareness line, and the plain language unless `)`
-// closed that. The first line that does not fit decides. Where no line follows, both are empty, and that gives 4. A wrong line is told at its first
-// byte, a missing line or `)` at the end, and bytes after the end at the first of them.
+// Reads `m` below the empty line that ended the rows into structs that hold nothing, line by line: the awareness line, and the plain language unless
+// `)` closed that. The first line that does not fit decides. Where no line follows, both are empty, and that gives 4. A wrong line is told at its
+// first byte, a missing line or `)` at the end, and bytes after the end at the first of them.
 fn remarks_into(read: &mut Remarks, m: &[u8]) -> Result<(), Fault>
     requires { read.old ≡ kept (remarks [] []) }
     ensures { RemarksHeld m.now (read_remarks (more (cuts m.now))) (answered read.new result) }

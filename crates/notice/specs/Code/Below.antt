@@ -7,6 +7,7 @@ use Rattle.text.specs.declared.refusal.Refusal.{Refusal}
 use Rattle.text.specs.declared.refusal.Fault.{Fault}
 use Rattle.body.specs.Rows.{most_rows, read_rows}
 use Rattle.remarks.specs.Remarks.{read_remarks}
+use Rattle.remarks.specs.Code.Held.{answered}
 use Rattle.front.specs.Places.{time_on, serial_on}
 use Rattle.front.specs.Code.Front.{heading_of, front_count, Opening, unopened, fill_lines}
 use Rattle.record.specs.declared.Record.{Record}
@@ -42,11 +43,6 @@ DisagreesAt m n r = (o : Opened m) → r ≡ place m (disagree_on (number n) o.o
 abbrev pub answer : Result Record Fault → Reading
 answer (Ok r) = accepted r
 answer (Err f) = refused (number f.refusal) f.place
-
--- what an answer says of the record that it was lent: what it holds, or the fault
-abbrev pub answered : Record → Result (Unit {0}) Fault → Result Record Fault
-answered r (Ok u) = Ok r
-answered r (Err f) = Err f
 
 -- the record of the message m is filled in, and the answer r tells whether it was read; where it was refused, the record is as it was
 abbrev pub FillsRecord : List ℕ → Record → Record → Result (Unit {0}) Fault → Type 0

@@ -28,8 +28,8 @@ pub record RemarksTaken (o : Out Remarks) (r : Code.Remarks) : Type 0 where
 abbrev pub RemarksHeld : List ℕ → Out Remarks → Result Code.Remarks Fault → Type 0
 RemarksHeld m o r = MatchResult r (RemarksTaken o) (Refused m o)
 
--- what an answer says of the structs that it was lent: what they hold, or the fault
-abbrev pub answered : Code.Remarks → Result (Unit {0}) Fault → Result Code.Remarks Fault
+-- what an answer says of the struct that it was lent: what it holds, or the fault
+abbrev pub answered : {T : Type 0} → T → Result (Unit {0}) Fault → Result T Fault
 answered x (Ok u) = Ok x
 answered x (Err f) = Err f
 
