@@ -12,7 +12,7 @@ use Rattle.sameness.specs.Same.{same_third, same_row, same_rows}
 use Rattle.sameness.specs.Laws.{self}
 
 -- rows
-third-same : (a b : Third) → same_third a b ≡ true → a ≡ b
+pub third-same : (a b : Third) → same_third a b ≡ true → a ≡ b
 unfolding same_third
 third-same a b h =
     let h₁ = and-2 _ _ h in
@@ -23,11 +23,11 @@ third-same a b h =
     let s = eqb-true a.description b.description (and-2 _ _ h₂) in
     λ i. record { code = c i; coverage = v i; depth = d i; description = s i }
 
-same-third : (a : Third) → same_third a a ≡ true
+pub same-third : (a : Third) → same_third a a ≡ true
 unfolding same_third
 same-third a = and_i (self a.code) (and_i (self a.coverage) (and_i (self a.depth) (self a.description)))
 
-row_same : (a b : Row) → same_row a b ≡ true → a ≡ b
+pub row_same : (a b : Row) → same_row a b ≡ true → a ≡ b
 unfolding same_row
 row_same a b h =
     let h₁ = and-2 _ _ h in
@@ -40,7 +40,7 @@ row_same a b h =
     let x = all_same same_third third-same a.thirds b.thirds (and-2 _ _ h₃) in
     λ i. record { time = t i; number = n i; side = s i; thirds = x i; width = w i }
 
-same_row_lem : (a : Row) → same_row a a ≡ true
+pub same_row_lem : (a : Row) → same_row a a ≡ true
 unfolding same_row
 same_row_lem a = and_i (self a.time) (and_i (self a.number) (and_i (self a.side) (and_i (self a.width) (same-all same_third same-third a.thirds))))
 
