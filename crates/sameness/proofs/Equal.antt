@@ -59,13 +59,9 @@ thirds_equal = listed same_third thirds.ghosts.eq third_equal
 -- rows for which `==` says yes are equal
 told_equal : (a b : Row) → rows.ghosts.eq a b ≡ true → a ≡ b
 told_equal a b h =
-    let t = eqb-true a.time b.time (grind arith) in
-    let n = eqb-true a.number b.number (grind arith) in
-    let s = eqb-true a.side b.side (grind arith) in
-    let w = eqb-true a.width b.width (grind arith) in
     let p : pointwise thirds.ghosts.eq a.thirds b.thirds ≡ true = grind arith in
     let x = all_same same_third third-same a.thirds b.thirds (thirds_equal a.thirds b.thirds ∙ p) in
-    λ i. record { time = t i; number = n i; side = s i; thirds = x i; width = w i }
+    grind arith
 
 -- by the laws of `same_row` and not by its words, so that an edit of these meets the laws
 row_equal : (a b : Row) → same_row a b ≡ rows.ghosts.eq a b
